@@ -1,0 +1,5 @@
+pub mod Digits
+pub mod Scales
+pub mod Pieces
+pub mod Seek
+pub mod Writes

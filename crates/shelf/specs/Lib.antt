@@ -1,0 +1,9 @@
+pub mod Refusals
+pub mod Outcomes
+pub mod Answers
+pub mod Names
+pub mod Spelling
+pub mod Meaning
+pub mod Laws
+pub mod Telling
+pub mod Alone

@@ -1,0 +1,21 @@
+// Shelves of fonts: marks, refusals, what every shelf means and keeps to, and the faces of a shelf as a shelf.
+mod alone;
+mod fonts;
+mod links;
+mod marks;
+mod names;
+mod refusals;
+mod starts;
+
+pub use alone::FacesAlone;
+pub use alone::FacesAsShelf;
+pub use fonts::Count;
+pub use fonts::Face;
+pub use fonts::Shelf;
+pub use links::add_link;
+pub use marks::Link;
+pub use marks::Mark;
+pub use names::Name;
+pub use refusals::Cause;
+pub use refusals::Refusal;
+pub use starts::start;

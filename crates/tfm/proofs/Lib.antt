@@ -1,0 +1,4 @@
+pub mod Every
+pub mod Laws
+pub mod Loads
+pub mod Names
