@@ -29,9 +29,5 @@ pub fn moved(at: i64, by: i64) -> Option<i64>
     ensures bound { λ r. ⌜ BySome r (Unit {0}) (λ z. natAbs z < 2 ^ 30) ⌝ }
 {
     let z = at.checked_add(by)?;
-    if z >= -POSITION_LIMIT && z <= POSITION_LIMIT {
-        Some(z)
-    } else {
-        None
-    }
+    if in_range(z) { Some(z) } else { None }
 }

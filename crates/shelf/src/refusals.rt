@@ -3,7 +3,7 @@ ghost use mathlib.Core.Path.{_≡_};
 ghost use Rattle.shelf.specs.Refusals.{causeNumber, returned};
 
 // Why a page or a packet ends in a fault.
-#[derive(Clone, Copy, PartialEq, Eq)]
+#[derive(Clone, Copy)]
 pub enum Cause {
     NotAllowed,
     PastEnd,
@@ -16,7 +16,7 @@ pub enum Cause {
 }
 
 // All refusals; docs/REFUSALS.md says when each comes and what it leaves.
-#[derive(Clone, Copy, PartialEq, Eq)]
+#[derive(Clone, Copy)]
 pub enum Refusal {
     DocumentLength { length: usize },
     NotDocument { place: usize },

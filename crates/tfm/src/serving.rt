@@ -1,11 +1,13 @@
 // The TFM shelf as a shelf: font k is face k, and makes one glyph.
 ghost use mathlib.Core.Path.{_≡_};
-ghost use mathlib.Core.List.{map};
+ghost use mathlib.Core.List.{List, [], _∷_, map};
 ghost use lib.IntN.{pos, negsuc};
 ghost use lib.ListN.{getD};
 ghost use lib.Signed.{_≤ℤ_};
 ghost use Rattle.std.specs.Of.Vec.{vec-items};
 ghost use Rattle.std.specs.Options.{Cases as BySome};
+ghost use Rattle.shelf.specs.Answers.{Answered};
+ghost use Rattle.shelf.specs.Outcomes.{ends, well};
 ghost use Rattle.tfm.specs.Meaning.{tfmMeaning};
 ghost use Rattle.tfm.specs.Outlines.{outlineOf};
 ghost use Rattle.tfm.specs.Widths.{widthOf};
@@ -67,29 +69,40 @@ pub impl Shelf for TfmShelf as TfmAsShelf {
             Ok(point) => point,
             Err(cause) => return Err(Refusal::Fault { cause, links: 0 }),
         };
-        let Some(w) = width(
+        match width(
             self.bytes.as_slice(),
             &self.faces[font as usize],
             size,
             code,
-        ) else {
-            return Err(Refusal::Fault {
+        ) {
+            Some(w) => set_one(
+                Mark::Glyph {
+                    face: font,
+                    size,
+                    code,
+                    h,
+                    v,
+                },
+                w,
+                marks,
+            ),
+            None => Err(Refusal::Fault {
                 cause: Cause::NoCode,
                 links: 0,
-            });
-        };
-        if marks.len() == 0 {
-            return Err(Refusal::MarksFull);
+            }),
         }
-        marks[0] = Mark::Glyph {
-            face: font,
-            size,
-            code,
-            h,
-            v,
-        };
-        Ok((1, w))
     }
+}
+
+// A character of one mark and a width.
+fn set_one(mark: Mark, width: i64, marks: &mut [Mark]) -> Result<(usize, i64), Refusal>
+    ensures { λ r. ⌜ ((chain : List Link) → Answered (ends (mark ∷ []) (well width)) chain chain (now (marks .entry)) (now (marks .exit)) r) ⌝ }
+{
+    if marks.len() == 0 {
+        return Err(Refusal::MarksFull);
+    }
+    marks[0] = mark;
+    Ok((1, width))
 }
 
 // The width of a code at a size; none where the face lacks it.
