@@ -1,0 +1,4 @@
+pub mod Kinds
+pub mod Definitions
+pub mod Commands
+pub mod Shapes
