@@ -74,9 +74,29 @@ fn a_damaged_file_is_refusal_7(rt: LibcRuntime) -> Result<(), Fail> {
 #[test]
 fn a_cut_file_is_refusal_7(rt: LibcRuntime) -> Result<(), Fail> {
     for file_length in 0..FILE_LENGTH {
-        check_eq(outcome(&SAMPLE, &[Entry { file_length, ..entry() }], rt.alloc()), (7, 0))?;
+        check_eq(
+            outcome(
+                &SAMPLE,
+                &[Entry {
+                    file_length,
+                    ..entry()
+                }],
+                rt.alloc(),
+            ),
+            (7, 0),
+        )?;
     }
-    check_eq(outcome(&SAMPLE, &[Entry { file_length: 45, ..entry() }], rt.alloc()), (7, 0))
+    check_eq(
+        outcome(
+            &SAMPLE,
+            &[Entry {
+                file_length: 45,
+                ..entry()
+            }],
+            rt.alloc(),
+        ),
+        (7, 0),
+    )
 }
 
 // The second entry's places, and what comes of it after an entry b.
@@ -108,7 +128,10 @@ fn entries_are_judged_by_range_name_and_file(rt: LibcRuntime) -> Result<(), Fail
             file_length: *file_length,
         };
         let entry_number = if *number == 0 { 0 } else { 1 };
-        check_eq(outcome(&SAMPLE, &[entry(), second], rt.alloc()), (*number, entry_number))?;
+        check_eq(
+            outcome(&SAMPLE, &[entry(), second], rt.alloc()),
+            (*number, entry_number),
+        )?;
     }
     Ok(())
 }
@@ -117,8 +140,28 @@ fn entries_are_judged_by_range_name_and_file(rt: LibcRuntime) -> Result<(), Fail
 fn names_and_sizes_have_limits(rt: LibcRuntime) -> Result<(), Fail> {
     let mut bytes = Vec::from_slice(rt.alloc(), &SAMPLE)?;
     bytes.extend_from_slice(&[1; 62])?;
-    check_eq(outcome(bytes.as_slice(), &[Entry { name_length: 63, ..entry() }], rt.alloc()), (0, 0))?;
-    check_eq(outcome(bytes.as_slice(), &[Entry { name_length: 64, ..entry() }], rt.alloc()), (9, 0))?;
+    check_eq(
+        outcome(
+            bytes.as_slice(),
+            &[Entry {
+                name_length: 63,
+                ..entry()
+            }],
+            rt.alloc(),
+        ),
+        (0, 0),
+    )?;
+    check_eq(
+        outcome(
+            bytes.as_slice(),
+            &[Entry {
+                name_length: 64,
+                ..entry()
+            }],
+            rt.alloc(),
+        ),
+        (9, 0),
+    )?;
     check_eq(outcome(&SAMPLE, &[entry(); 33], rt.alloc()), (8, 0))?;
     check_eq(outcome(&SAMPLE, &[entry(); 32], rt.alloc()), (9, 1))?;
     let full = vec![in rt.alloc(); 0u8; 1_048_576]?;

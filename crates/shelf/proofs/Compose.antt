@@ -282,3 +282,23 @@ module _ {W : Type 0} (total : Outcome W) (chain : List Link) (first marks : Lis
         e ∙ ap (prepend (take used marks)) f
         ∙ ap (λ t. ends t (o′ .ending)) (sym (append-assoc (take used marks) ms (o′ .marks)))
         ∙ ap (λ t. prepend t o′) (sym more-take)
+
+-- a refusal that a level passes on, with its link where it is a fault
+pub passed-on : {W : Type 0} (l : Link) (o : Outcome W) (chain chain′ chain″ : List Link) (marks marks′ : List Mark) (e r : Refusal) → Answered o chain chain′ marks marks′ (Err e) → ((k : Cause) (n : ℕ) → e ≡ Fault k n → (r ≡ Fault k (linkCount n)) × (chain″ ≡ linkWritten n l chain′)) → (e ≡ MarksFull → (r ≡ MarksFull) × (chain″ ≡ chain′)) → Answered (link l o) chain chain″ marks marks′ (Err r)
+passed-on {W} l o chain chain′ chain″ marks marks′ e r a f m = ⊎-elim full (λ g. fits (o .ending) refl g) (cases-lt (length marks) (length (o .marks)))
+  where
+    renamed : (r′ : Refusal) (c : List Link) → r ≡ r′ → chain″ ≡ c → Answered (link l o) chain c marks marks′ (Err r′) → Answered (link l o) chain chain″ marks marks′ (Err r)
+    renamed r′ c p q x = subst (λ t. Answered (link l o) chain chain″ marks marks′ (Err t)) (sym p) (subst (λ t. Answered (link l o) chain t marks marks′ (Err r′)) (sym q) x)
+
+    full : length marks < length (o .marks) → Answered (link l o) chain chain″ marks marks′ (Err r)
+    full g =
+        let q : e ≡ MarksFull = unErr {W = ℕ × W} e MarksFull (a .answered ∙ answer-full o (length marks) g) in
+        let p = m q in
+        renamed MarksFull chain′ (p .0) (p .1) (link-full l chain chain′ marks marks′ (o .marks) (o .ending) (subst (λ t. Answered o chain chain′ marks marks′ (Err t)) q a))
+
+    fits : (x : Ending W) → o .ending ≡ x → length (o .marks) ≤ length marks → Answered (link l o) chain chain″ marks marks′ (Err r)
+    fits (well w) x g = never {X = Answered (link l o) chain chain″ marks marks′ (Err r)} (length (o .marks), w) e (sym (a .answered ∙ answer-fits o (length marks) g ∙ ap (ended (length (o .marks))) x))
+    fits (fault k ch) x g =
+        let q : e ≡ Fault k (length ch) = unErr {W = ℕ × W} e (Fault k (length ch)) (a .answered ∙ answer-fits o (length marks) g ∙ ap (ended (length (o .marks))) x) in
+        let p = f k (length ch) q in
+        renamed (Fault k (linkCount (length ch))) (linkWritten (length ch) l chain′) (p .0) (p .1) (link-faulted l chain chain′ marks marks′ (o .marks) (o .ending) k (length ch) (subst (λ t. Answered o chain chain′ marks marks′ (Err t)) q a))

@@ -54,10 +54,13 @@ module _ {W : Type 0} (ms : List Mark) (e : Ending W) (chain : List Link) (marks
 pub silent : {W : Type 0} (e : Ending W) (chain : List Link) (marks : List Mark) → Answered (ends [] e) chain (overlay (chainOf e) chain) marks marks (ended 0 e)
 silent e chain marks = made [] e chain marks zero-le
 
--- the three ways of a face: a fault at once, no room for its one mark, that mark
+-- the ways of a face or a rule: a fault at once, a width alone, no room for its one mark, that mark
 module _ (o : Outcome ℤ) (chain : List Link) (marks : List Mark) where
   pub by-fault : (k : Cause) → o ≡ faulty k → Answered o chain chain marks marks (Err (Fault k 0))
   by-fault k e = subst (λ p. Answered p chain chain marks marks (Err (Fault k 0))) (sym e) (silent (fault k []) chain marks)
+
+  pub by-blank : (w : ℤ) → o ≡ ends [] (well w) → Answered o chain chain marks marks (Ok (0, w))
+  by-blank w e = subst (λ p. Answered p chain chain marks marks (Ok (0, w))) (sym e) (silent (well w) chain marks)
 
   pub by-full : (x : Mark) (w : ℤ) → o ≡ ends (x ∷ []) (well w) → length marks ≡ 0 → Answered o chain chain marks marks (Err MarksFull)
   by-full x w e h = none marks h

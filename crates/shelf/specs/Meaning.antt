@@ -52,6 +52,10 @@ abbrev pub faceOutcome : ℕ → Option ℤ → ℕ → ℕ → ℤ → ℤ → 
 faceOutcome k (Some w) size code h v = ends (Glyph k size code h v ∷ []) (well w)
 faceOutcome k None size code h v = faulty NoCode
 
+-- a start point in range
+abbrev pub pointAt : ℤ → ℤ → Option (ℤ × ℤ)
+pointAt h v = cond (inRange h && inRange v) (Some (h, v)) None
+
 -- the checks of a call, in order: the font, the size, the start point
 abbrev pub started : ℕ → ℕ → ℕ → ℤ → ℤ → Result (ℤ × ℤ) Cause
 started fonts font size h v =

@@ -24,5 +24,5 @@ pub enum Mark {
 pub struct Link {
     pub font: u16,
     pub code: u16,
-    pub place: u32,
+    pub place: usize,
 }

@@ -1,13 +1,11 @@
 // The TFM shelf as a shelf: font k is face k, and makes one glyph.
 ghost use mathlib.Core.Path.{_≡_};
-ghost use mathlib.Core.List.{List, [], _∷_, map};
+ghost use mathlib.Core.List.{map};
 ghost use lib.IntN.{pos, negsuc};
 ghost use lib.ListN.{getD};
 ghost use lib.Signed.{_≤ℤ_};
 ghost use Rattle.std.specs.Of.Vec.{vec-items};
 ghost use Rattle.std.specs.Options.{Cases as BySome};
-ghost use Rattle.shelf.specs.Answers.{Answered};
-ghost use Rattle.shelf.specs.Outcomes.{ends, well};
 ghost use Rattle.tfm.specs.Meaning.{tfmMeaning};
 ghost use Rattle.tfm.specs.Outlines.{outlineOf};
 ghost use Rattle.tfm.specs.Widths.{widthOf};
@@ -23,6 +21,7 @@ use shelf::Link;
 use shelf::Mark;
 use shelf::Refusal;
 use shelf::Shelf;
+use shelf::put_mark;
 use shelf::start;
 
 pub impl Shelf for TfmShelf as TfmAsShelf {
@@ -75,7 +74,7 @@ pub impl Shelf for TfmShelf as TfmAsShelf {
             size,
             code,
         ) {
-            Some(w) => set_one(
+            Some(w) => put_mark(
                 Mark::Glyph {
                     face: font,
                     size,
@@ -92,17 +91,6 @@ pub impl Shelf for TfmShelf as TfmAsShelf {
             }),
         }
     }
-}
-
-// A character of one mark and a width.
-fn set_one(mark: Mark, width: i64, marks: &mut [Mark]) -> Result<(usize, i64), Refusal>
-    ensures { λ r. ⌜ ((chain : List Link) → Answered (ends (mark ∷ []) (well width)) chain chain (now (marks .entry)) (now (marks .exit)) r) ⌝ }
-{
-    if marks.len() == 0 {
-        return Err(Refusal::MarksFull);
-    }
-    marks[0] = mark;
-    Ok((1, width))
 }
 
 // The width of a code at a size; none where the face lacks it.

@@ -4,9 +4,10 @@ use Rattle.cases.proofs.worked_values.Needs as need
 
 pub returns : need.returns
 unfolding scaled halvings
-returns c =
-    ( (refl, refl, refl, refl, refl, refl)
-    , ( (refl, refl, refl, refl, refl, refl)
-      , (refl, refl, refl, refl, refl, refl, refl, refl)
-      )
-    )
+returns c = (
+  (refl, refl, refl, refl, refl, refl),
+  (
+    (refl, refl, refl, refl, refl, refl),
+    (refl, refl, refl, refl, refl, refl, refl, refl),
+  ),
+)

@@ -34,4 +34,4 @@ returns-in-Some c =
     let f0 : SFits w32 (c .in-Ok .point .0) = search needs in
     let f1 : SFits w32 (c .in-Ok .point .1) = search needs in
     let fw : SFits w64 (c .in-Some .w) = search needs in
-    subst (λ x. Answered x (c .args .chain .now) (c .args .chain .now) (c .args .marks .now) (c .set-one .last .marks) (c .set-one .result)) (sym o) (simp toZ-ofZ at (c .set-one .ensures (c .args .chain .now)))
+    subst (λ x. Answered x (c .args .chain .now) (c .args .chain .now) (c .args .marks .now) (c .put-mark .last .marks) (c .put-mark .result)) (sym o) (simp toZ-ofZ at (c .put-mark .ensures (c .args .chain .now)))

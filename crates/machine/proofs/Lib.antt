@@ -1,0 +1,4 @@
+pub mod Saved
+pub mod Onward
+pub mod Turning
+pub mod Looping

@@ -1,0 +1,4 @@
+pub mod Frames
+pub mod Steps
+pub mod Views
+pub mod Runs
