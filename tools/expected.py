@@ -1,16 +1,20 @@
-"""What `dviflat faces` has to print, worked out from what tftopl says of the TFM files and the rule of scaling.
+"""Makes what the program `dviflat` must print: the faces of the files in crates/dviflat/data.
 
-usage: expected.py SIZE TEXT NAME=FILE..
+It is worked out from what tftopl says of the TFM files and from the rule of scaling, and not by the program. The names,
+files, size and text are those of crates/dviflat/args. It writes crates/dviflat/stdout, wherever it is started from.
+
+    python3 tools/expected.py
 """
 import os
 import re
 import subprocess
-import sys
+
+DVIFLAT = os.path.join(os.path.dirname(os.path.abspath(__file__)), os.pardir, 'crates', 'dviflat')
 
 
 def described(file):
     """Check sum, design size and the fix_word of each character's width, as tftopl has them."""
-    text = subprocess.run(['tftopl', os.path.abspath(file)], capture_output=True, text=True, check=True).stdout
+    text = subprocess.run(['tftopl', os.path.join(DVIFLAT, 'data', file)], capture_output=True, text=True, check=True).stdout
     checksum = int(re.search(r'^\(CHECKSUM O ([0-7]+)\)', text, re.M).group(1), 8)
     design = re.search(r'^\(DESIGNSIZE R ([0-9.]+)\)', text, re.M).group(1)
     widths = {}
@@ -52,13 +56,15 @@ def face(number, name, file, size, text):
 
 
 def main():
-    size, text = int(sys.argv[1]), sys.argv[2]
-    for number, font in enumerate(sys.argv[3:]):
-        name, file = font.split('=', 1)
-        if number > 0:
-            print()
-        for line in face(number, name, file, size, text):
-            print(line)
+    with open(os.path.join(DVIFLAT, 'args')) as file:
+        command, *words = file.read().splitlines()
+    assert command == 'faces'
+    options = list(zip(words[::2], words[1::2]))
+    fonts = [value.split('=', 1) for option, value in options if option == '--tfm']
+    size, text = int(dict(options)['--size']), dict(options)['--text']
+    faces = ['\n'.join(face(k, name, file, size, text)) for k, (name, file) in enumerate(fonts)]
+    with open(os.path.join(DVIFLAT, 'stdout'), 'w') as file:
+        file.write('\n\n'.join(faces) + '\n')
 
 
 main()

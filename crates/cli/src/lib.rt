@@ -1,24 +1,16 @@
-// The commands of the program. Its `main` calls `run` alone.
-mod faces;
-mod failure;
-mod files;
-mod fonts;
-mod meaning;
-mod options;
-mod points;
+// Chooses the command that the arguments ask for. The program's `main` calls `run` alone.
+mod commands;
 mod usage;
 
-use failure::Failure;
-use failure::FailureFromAlloc;
-use failure::FailureFromOutput;
-use failure::FailureFromRefused;
-use failure::told;
-use options::Options;
+use commands::Command;
+use commands::command_of;
 use std::env;
 use std::error::AnyError;
 use std::io;
-use std::io::BufWriter;
-use std::io::Write;
+use terminal::Failure;
+use terminal::FailureFromAlloc;
+use terminal::FailureFromOutput;
+use terminal::FailureFromRefused;
 use usage::USAGE;
 
 // Does what the arguments ask. A failure is told on standard error, and then handed on, so that the program ends with
@@ -35,14 +27,18 @@ pub fn run(rt: &LibcRuntime) -> Result<(), AnyError> {
 
 fn obey(rt: &LibcRuntime) -> Result<(), Failure> {
     let all = arguments(rt)?;
-    let [command, rest @ ..] = all.as_slice() else {
-        return Err(Failure::Misused);
-    };
-    match command.as_str() {
-        "faces" => faces::show(rt, &Options::parse(rest, rt.alloc())?),
-        "replay" => replay_file(rt, rest),
-        "help" | "--help" => Ok(rt.print(USAGE)?),
-        _ => Err(Failure::Misused),
+    match all.as_slice() {
+        [word, rest @ ..] => choose(rt, word.as_str(), rest),
+        [] => Err(Failure::Misused),
+    }
+}
+
+fn choose(rt: &LibcRuntime, word: &str, rest: &[String]) -> Result<(), Failure> {
+    match command_of(word) {
+        Some(Command::Faces) => inspect::show_faces(rt, rest),
+        Some(Command::Replay) => replay::run_script(rt, rest),
+        Some(Command::Help) => Ok(rt.print(USAGE)?),
+        None => Err(Failure::Misused),
     }
 }
 
@@ -52,17 +48,6 @@ fn arguments(rt: &LibcRuntime) -> Result<Vec<String>, Failure> {
         all.push(word)?;
     }
     Ok(all)
-}
-
-fn replay_file(rt: &LibcRuntime, words: &[String]) -> Result<(), Failure> {
-    let [path] = words else {
-        return Err(told(rt.alloc(), "replay takes one script"));
-    };
-    let script = files::read(rt, path.as_str())?;
-    let mut out = BufWriter::new(rt.stdout());
-    replay::run(rt, script.as_slice(), &mut out)?;
-    out.flush()?;
-    Ok(())
 }
 
 fn tell(rt: &LibcRuntime, failure: &Failure) -> io::Result<()> {

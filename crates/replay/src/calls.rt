@@ -1,99 +1,91 @@
 // The calls on a shelf, whatever its layers are, and the call on numbers alone.
-use crate::answer;
-use crate::kind::Query;
-use crate::problem::Problem;
-use crate::problem::ProblemFromAlloc;
-use crate::problem::ProblemFromOutput;
-use crate::problem::WRONG_COUNT;
-use crate::words;
+use answers::Lists;
+use script::Problem;
+use script::ProblemFromAlloc;
+use script::Query;
 use shelf::Cause;
-use shelf::Link;
-use shelf::Mark;
 use shelf::Refusal;
 use shelf::Shelf;
 use shelf::start;
 use std::alloc::Global;
-use std::io::Write;
+use terminal::Output;
 
-pub fn ask<S: Shelf, W: Write>(
+pub fn ask<S: Shelf>(
     shelf: &S,
     query: Query,
     words: &[&[u8]],
     heap: Global,
-    out: &mut W,
+    out: &mut Output,
 ) -> Result<(), Problem> {
-    match (query, words) {
-        (Query::Count, []) => count(shelf, out),
-        (Query::Find, [name]) => find(shelf, name, heap, out),
-        (Query::Face, [k]) => face(shelf, k, out),
-        (Query::Character, words) => character(shelf, words, heap, out),
-        _ => Err(Problem::Senseless(WRONG_COUNT)),
+    match query {
+        Query::Count => count(shelf, words, out),
+        Query::Find => find(shelf, words, heap, out),
+        Query::Face => face(shelf, words, out),
+        Query::Character => character(shelf, words, heap, out),
     }
 }
 
 // `scale HEX SIZE`
-pub fn scale<W: Write>(words: &[&[u8]], out: &mut W) -> Result<(), Problem> {
+pub fn scale(words: &[&[u8]], out: &mut Output) -> Result<(), Problem> {
     let [word, size] = words else {
-        return Err(Problem::Senseless(WRONG_COUNT));
+        return Err(Problem::WrongCount);
     };
-    match numbers::scale(words::fix_word(word)?, words::size(size)?) {
-        Some(scaled) => writeln!(out, "ok {scaled}")?,
-        None => writeln!(out, "refused 18")?,
-    }
+    let word = script::fix_word(word)?;
+    let size = script::signed(size)?;
+    answers::scaled(numbers::scale(word, script::size(size)), out);
     Ok(())
 }
 
-pub fn count<S: Shelf, W: Write>(shelf: &S, out: &mut W) -> Result<(), Problem> {
-    let count = shelf.count();
-    let fonts = count.fonts;
-    let faces = count.faces;
-    writeln!(out, "ok {fonts} {faces}")?;
+fn count<S: Shelf>(shelf: &S, words: &[&[u8]], out: &mut Output) -> Result<(), Problem> {
+    if !words.is_empty() {
+        return Err(Problem::WrongCount);
+    }
+    answers::count(shelf.count(), out);
     Ok(())
 }
 
 // `find NAMEHEX`
-fn find<S: Shelf, W: Write>(
+fn find<S: Shelf>(
     shelf: &S,
-    name: &[u8],
+    words: &[&[u8]],
     heap: Global,
-    out: &mut W,
+    out: &mut Output,
 ) -> Result<(), Problem> {
-    let name = words::bytes(name, heap)?;
+    let [name] = words else {
+        return Err(Problem::WrongCount);
+    };
+    let name = script::bytes(name, heap)?;
     match shelf.find(name.as_slice()) {
-        Some(font) => writeln!(out, "ok {font}")?,
-        None => writeln!(out, "ok none")?,
+        Some(font) => answers::ok(&[font as i128], out),
+        None => answers::none(out),
     }
     Ok(())
 }
 
 // `face K`
-fn face<S: Shelf, W: Write>(shelf: &S, k: &[u8], out: &mut W) -> Result<(), Problem> {
-    let Some(face) = shelf.face(words::font(k)?) else {
-        writeln!(out, "ok none")?;
-        return Ok(());
-    };
-    let checksum = face.checksum;
-    let design = face.design;
-    write!(out, "ok {checksum} {design} ")?;
-    answer::name(face.name, out)?;
+fn face<S: Shelf>(shelf: &S, words: &[&[u8]], out: &mut Output) -> Result<(), Problem> {
+    let [k] = script::all_signed::<1>(words)?;
+    match shelf.face(script::font(k)) {
+        Some(face) => answers::face(&face, out),
+        None => answers::none(out),
+    }
     Ok(())
 }
 
 // `character FONT SIZE CODE H V MARKS CHAIN`
-fn character<S: Shelf, W: Write>(
+fn character<S: Shelf>(
     shelf: &S,
     words: &[&[u8]],
     heap: Global,
-    out: &mut W,
+    out: &mut Output,
 ) -> Result<(), Problem> {
     let asked = Asked::parse(words)?;
-    let mut marks = vec![in heap; answer::MARK_FILLER; asked.marks]?;
-    let mut chain = vec![in heap; answer::LINK_FILLER; asked.chain]?;
-    match asked.put_to(shelf, chain.as_mut_slice(), marks.as_mut_slice()) {
-        Ok((count, width)) => writeln!(out, "ok {count} {width}")?,
-        Err(refusal) => answer::refusal(refusal, out)?,
+    let mut lists = Lists::fresh(asked.marks, asked.chain, heap)?;
+    match asked.put_to(shelf, &mut lists) {
+        Ok((count, width)) => answers::ok(&[count as i128, width as i128], out),
+        Err(refusal) => answers::refusal(refusal, out),
     }
-    answer::lists(marks.as_slice(), chain.as_slice(), out)?;
+    lists.tell(out);
     Ok(())
 }
 
@@ -111,28 +103,32 @@ struct Asked {
 
 impl Asked {
     fn parse(words: &[&[u8]]) -> Result<Asked, Problem> {
-        let [font, size, code, h, v, marks, chain] = words else {
-            return Err(Problem::Senseless(WRONG_COUNT));
+        let [point @ .., marks, chain] = words else {
+            return Err(Problem::WrongCount);
         };
+        let [font, size, code, h, v] = script::all_signed::<5>(point)?;
         Ok(Asked {
-            font: words::font(font)?,
-            size: words::size(size)?,
-            code: words::signed(code)?,
-            h: words::signed(h)?,
-            v: words::signed(v)?,
-            marks: words::unsigned(marks)?,
-            chain: words::unsigned(chain)?,
+            font: script::font(font),
+            size: script::size(size),
+            code,
+            h,
+            v,
+            marks: script::unsigned(marks)?,
+            chain: script::unsigned(chain)?,
         })
     }
 
-    fn put_to<S: Shelf>(
-        &self,
-        shelf: &S,
-        chain: &mut [Link],
-        marks: &mut [Mark],
-    ) -> Result<(usize, i64), Refusal> {
+    fn put_to<S: Shelf>(&self, shelf: &S, lists: &mut Lists) -> Result<(usize, i64), Refusal> {
         match u8::try_from(self.code) {
-            Ok(code) => shelf.character(self.font, self.size, code, self.h, self.v, chain, marks),
+            Ok(code) => shelf.character(
+                self.font,
+                self.size,
+                code,
+                self.h,
+                self.v,
+                lists.chain.as_mut_slice(),
+                lists.marks.as_mut_slice(),
+            ),
             Err(_) => Err(self.without_code(shelf)),
         }
     }

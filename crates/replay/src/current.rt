@@ -1,12 +1,11 @@
 // The shelf that the calls of a script are made on.
 use crate::calls;
-use crate::kind::Query;
-use crate::problem::NO_SHELF;
-use crate::problem::Problem;
+use script::Problem;
+use script::Query;
 use shelf::FacesAlone;
 use shelf::FacesAsShelf;
 use std::alloc::Global;
-use std::io::Write;
+use terminal::Output;
 use tfm::TfmAsShelf;
 use tfm::TfmShelf;
 
@@ -19,15 +18,15 @@ pub enum Current {
 }
 
 impl Current {
-    pub fn ask<W: Write>(
+    pub fn ask(
         &self,
         query: Query,
         words: &[&[u8]],
         heap: Global,
-        out: &mut W,
+        out: &mut Output,
     ) -> Result<(), Problem> {
         match self {
-            Current::Missing => Err(Problem::Senseless(NO_SHELF)),
+            Current::Missing => Err(Problem::NoShelf),
             Current::Tfm(shelf) => calls::ask(shelf, query, words, heap, out),
             Current::TfmAlone(shelf) => calls::ask(shelf, query, words, heap, out),
         }
@@ -40,9 +39,5 @@ impl Current {
             Current::Tfm(shelf) => Current::TfmAlone(FacesAlone(shelf)),
             Current::TfmAlone(shelf) => Current::TfmAlone(shelf),
         }
-    }
-
-    pub fn is_missing(&self) -> bool {
-        matches!(self, Current::Missing)
     }
 }

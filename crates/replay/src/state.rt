@@ -1,23 +1,16 @@
 // What a script has built so far, and the lines that change it.
-use crate::answer;
 use crate::calls;
 use crate::current::Current;
-use crate::kind::Call;
-use crate::kind::Kind;
-use crate::kind::kind_of;
-use crate::problem::NO_MEMORY;
-use crate::problem::NO_SHELF;
-use crate::problem::NO_SUCH_LINE;
-use crate::problem::Problem;
-use crate::problem::ProblemFromAlloc;
-use crate::problem::ProblemFromOutput;
-use crate::problem::ProblemFromRefused;
-use crate::problem::WRONG_COUNT;
-use crate::store::Store;
-use crate::words;
+use script::Call;
+use script::Kind;
+use script::Problem;
+use script::ProblemFromAlloc;
+use script::ProblemFromRefused;
+use script::Store;
+use script::kind_of;
+use shelf::Shelf;
 use std::alloc::Global;
-use std::io;
-use std::io::Write;
+use terminal::Output;
 use tfm::Entry;
 use tfm::NotMade;
 use tfm::TfmAsShelf;
@@ -38,113 +31,132 @@ impl State {
     }
 
     // Carries out one line and writes its answer.
-    pub fn take<W: Write>(&mut self, rt: &LibcRuntime, line: &[u8], out: &mut W) -> io::Result<()> {
+    pub fn take(&mut self, rt: &LibcRuntime, line: &[u8], out: &mut Output) {
         if line.is_empty() || line.starts_with(b"#") {
-            return Ok(());
+            return;
         }
         if line.starts_with(b"case ") {
-            return self.begin(line, out);
-        }
-        match self.obey(rt, line, out) {
-            Ok(()) => Ok(()),
-            Err(Problem::Senseless(why)) => writeln!(out, "error {why}\n."),
-            Err(Problem::Output(error)) => Err(error),
+            self.begin(line, out);
+        } else if let Err(problem) = self.obey(rt, line, out) {
+            answers::error(problem.words(), out);
         }
     }
 
     // `case NAME` forgets everything and prints itself.
-    fn begin<W: Write>(&mut self, line: &[u8], out: &mut W) -> io::Result<()> {
+    fn begin(&mut self, line: &[u8], out: &mut Output) {
         self.store.forget();
         self.shelf = Current::Missing;
-        out.write_all(line)?;
-        out.write_all(b"\n")
+        out.write_bytes(line);
+        out.write_bytes(b"\n");
     }
 
-    fn obey<W: Write>(
-        &mut self,
-        rt: &LibcRuntime,
-        line: &[u8],
-        out: &mut W,
-    ) -> Result<(), Problem> {
-        let all = words::cut(line, b' ', rt.alloc())?;
-        let [first, rest @ ..] = all.as_slice() else {
-            return Err(Problem::Senseless(NO_SUCH_LINE));
-        };
-        match kind_of(first) {
-            Some(Kind::Define(definition)) => self.store.define(rt, definition, rest),
-            Some(Kind::Do(call)) => self.answer(call, rest, rt.alloc(), out),
-            None => Err(Problem::Senseless(NO_SUCH_LINE)),
+    fn obey(&mut self, rt: &LibcRuntime, line: &[u8], out: &mut Output) -> Result<(), Problem> {
+        let words = script::cut(line, b' ', rt.alloc())?;
+        match words.as_slice() {
+            [first, rest @ ..] => self.do_line(rt, first, rest, out),
+            [] => Err(Problem::NoSuchLine),
         }
     }
 
-    // Every answer to a call ends by a dot.
-    fn answer<W: Write>(
+    fn do_line(
+        &mut self,
+        rt: &LibcRuntime,
+        first: &[u8],
+        words: &[&[u8]],
+        out: &mut Output,
+    ) -> Result<(), Problem> {
+        match kind_of(first) {
+            Some(Kind::Define(definition)) => self.store.define(rt, definition, words),
+            Some(Kind::Do(call)) => self.answer(call, words, rt.alloc(), out),
+            None => Err(Problem::NoSuchLine),
+        }
+    }
+
+    // Ends what the call answered. A problem has its answer from `take`.
+    fn answer(
         &mut self,
         call: Call,
         words: &[&[u8]],
         heap: Global,
-        out: &mut W,
+        out: &mut Output,
     ) -> Result<(), Problem> {
-        match call {
-            Call::Scale => calls::scale(words, out)?,
-            Call::Tfm => self.make_shelf(words, heap, out)?,
-            Call::Alone => self.take_faces(words, out)?,
-            Call::Ask(query) => self.shelf.ask(query, words, heap, out)?,
+        let done = match call {
+            Call::Scale => calls::scale(words, out),
+            Call::Tfm => self.make_shelf(words, heap, out),
+            Call::Alone => self.take_faces(words, out),
+            Call::Ask(query) => self.shelf.ask(query, words, heap, out),
+        };
+        if done.is_ok() {
+            answers::end(out);
         }
-        writeln!(out, ".")?;
-        Ok(())
+        done
     }
 
     // `tfm ID [NP NL FP FL]..` A refusal leaves the shelf as it was.
-    fn make_shelf<W: Write>(
+    fn make_shelf(
         &mut self,
         words: &[&[u8]],
         heap: Global,
-        out: &mut W,
+        out: &mut Output,
     ) -> Result<(), Problem> {
+        match self.tfm_shelf(words, heap)? {
+            Ok(shelf) => {
+                answers::count(shelf.count(), out);
+                self.shelf = Current::Tfm(shelf);
+                Ok(())
+            }
+            Err(NotMade::Refused(refusal)) => {
+                answers::refusal(refusal, out);
+                Ok(())
+            }
+            Err(NotMade::NoMemory) => Err(Problem::NoMemory),
+        }
+    }
+
+    // What the library answers to the bytes and entries of the line.
+    fn tfm_shelf(
+        &self,
+        words: &[&[u8]],
+        heap: Global,
+    ) -> Result<Result<TfmShelf, NotMade>, Problem> {
         let [name, places @ ..] = words else {
-            return Err(Problem::Senseless(WRONG_COUNT));
+            return Err(Problem::WrongCount);
         };
         let bytes = self.store.find(name)?;
         let entries = entries_of(places, heap)?;
-        match TfmShelf::new(bytes, entries.as_slice(), heap) {
-            Ok(shelf) => {
-                calls::count(&shelf, out)?;
-                self.shelf = Current::Tfm(shelf);
-            }
-            Err(NotMade::Refused(refusal)) => answer::refusal(refusal, out)?,
-            Err(NotMade::NoMemory) => return Err(Problem::Senseless(NO_MEMORY)),
-        }
-        Ok(())
+        Ok(TfmShelf::new(bytes, entries.as_slice(), heap))
     }
 
     // `alone`
-    fn take_faces<W: Write>(&mut self, words: &[&[u8]], out: &mut W) -> Result<(), Problem> {
+    fn take_faces(&mut self, words: &[&[u8]], out: &mut Output) -> Result<(), Problem> {
         if !words.is_empty() {
-            return Err(Problem::Senseless(WRONG_COUNT));
+            return Err(Problem::WrongCount);
         }
-        if self.shelf.is_missing() {
-            return Err(Problem::Senseless(NO_SHELF));
+        match std::mem::replace(&mut self.shelf, Current::Missing) {
+            Current::Missing => Err(Problem::NoShelf),
+            shelf => {
+                self.shelf = shelf.alone();
+                answers::ok(&[], out);
+                Ok(())
+            }
         }
-        let shelf = std::mem::replace(&mut self.shelf, Current::Missing);
-        self.shelf = shelf.alone();
-        writeln!(out, "ok")?;
-        Ok(())
     }
 }
 
 fn entries_of(places: &[&[u8]], heap: Global) -> Result<Vec<Entry>, Problem> {
     let mut entries = Vec::new(heap);
     for four in places.chunks(4) {
-        let [name_place, name_length, file_place, file_length] = four else {
-            return Err(Problem::Senseless(WRONG_COUNT));
-        };
-        entries.push(Entry {
-            name_place: words::unsigned(name_place)?,
-            name_length: words::unsigned(name_length)?,
-            file_place: words::unsigned(file_place)?,
-            file_length: words::unsigned(file_length)?,
-        })?;
+        entries.push(entry_of(four)?)?;
     }
     Ok(entries)
+}
+
+fn entry_of(four: &[&[u8]]) -> Result<Entry, Problem> {
+    let [name_place, name_length, file_place, file_length] = script::all_unsigned::<4>(four)?;
+    Ok(Entry {
+        name_place,
+        name_length,
+        file_place,
+        file_length,
+    })
 }

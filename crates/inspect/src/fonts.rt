@@ -1,14 +1,14 @@
 // Makes a shelf of the TFM files that the command line names.
 ghost use Prim.Native.Nat.{_≤_};
 ghost use lib.ListN.{length};
-use crate::failure::Failure;
-use crate::failure::FailureFromAlloc;
-use crate::failure::FailureFromRefused;
-use crate::files;
-use crate::meaning::meaning;
-use crate::options::Font;
+use answers::meaning;
 use shelf::Refusal;
 use std::alloc::Global;
+use terminal::Failure;
+use terminal::FailureFromAlloc;
+use terminal::FailureFromRefused;
+use terminal::Font;
+use terminal::told;
 use tfm::Entry;
 use tfm::NotMade;
 use tfm::TfmShelf;
@@ -18,30 +18,36 @@ pub fn shelf_of(rt: &LibcRuntime, fonts: &[Font]) -> Result<TfmShelf, Failure> {
     let mut bytes = Vec::new(heap);
     let mut entries = Vec::new(heap);
     for font in fonts {
-        entries.push(load(rt, font, &mut bytes)?)?;
+        load(rt, font, &mut bytes, &mut entries)?;
     }
     match TfmShelf::new(bytes.as_slice(), entries.as_slice(), heap) {
         Ok(shelf) => Ok(shelf),
-        Err(NotMade::Refused(refusal)) => Err(refused(refusal, fonts, heap)?),
+        Err(NotMade::Refused(refusal)) => Err(refused(refusal, fonts, heap)),
         Err(NotMade::NoMemory) => Err(Failure::NoMemory),
     }
 }
 
-// Adds the font's name and file to the bytes, and says where they stand.
-fn load(rt: &LibcRuntime, font: &Font, bytes: &mut Vec<u8>) -> Result<Entry, Failure> {
-    let file = files::read(rt, font.file.as_str())?;
+// Adds the font's name and file to the bytes, and an entry that says where they stand.
+fn load(
+    rt: &LibcRuntime,
+    font: &Font,
+    bytes: &mut Vec<u8>,
+    entries: &mut Vec<Entry>,
+) -> Result<(), Failure> {
+    let file = terminal::read(rt, font.file.as_str())?;
     let name = font.name.as_bytes();
     let contents = unpadded(file.as_slice());
     let name_place = bytes.len();
     bytes.extend_from_slice(name)?;
     let file_place = bytes.len();
     bytes.extend_from_slice(contents)?;
-    Ok(Entry {
+    entries.push(Entry {
         name_place,
         name_length: name.len(),
         file_place,
         file_length: contents.len(),
-    })
+    })?;
+    Ok(())
 }
 
 // A TFM file begins with its length in words of four bytes, and some are padded beyond it. A file that is shorter than
@@ -59,14 +65,13 @@ fn unpadded(file: &[u8]) -> &[u8]
 }
 
 // What to tell of a refusal: by which file, where it is about one.
-fn refused(refusal: Refusal, fonts: &[Font], heap: Global) -> Result<Failure, Failure> {
+fn refused(refusal: Refusal, fonts: &[Font], heap: Global) -> Failure {
     let number = refusal.number();
     let words = meaning(&refusal);
-    let told = match file_of(refusal, fonts) {
-        Some(file) => format!(heap, "{file}: refused {number}: {words}")?,
-        None => format!(heap, "refused {number}: {words}")?,
-    };
-    Ok(Failure::Told(told))
+    match file_of(refusal, fonts) {
+        Some(file) => told(format!(heap, "{file}: refused {number}: {words}")),
+        None => told(format!(heap, "refused {number}: {words}")),
+    }
 }
 
 fn file_of(refusal: Refusal, fonts: &[Font]) -> Option<&str> {

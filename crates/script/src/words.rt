@@ -2,9 +2,9 @@
 ghost use mathlib.Core.Path.{_≡_};
 ghost use Prim.Native.Nat.{_-_, _<_, _≤_};
 ghost use Rattle.std.specs.declared.option.Option.the-variants.{Some, None};
-use crate::problem::Problem;
-use crate::problem::ProblemFromAlloc;
-use crate::problem::ProblemFromRefused;
+use crate::problems::Problem;
+use crate::problems::ProblemFromAlloc;
+use crate::problems::ProblemFromRefused;
 use std::alloc::AllocError;
 use std::alloc::Global;
 
@@ -12,16 +12,13 @@ use std::alloc::Global;
 pub fn cut<'a>(text: &'a [u8], separator: u8, heap: Global) -> Result<Vec<&'a [u8]>, AllocError> {
     let mut parts = Vec::new(heap);
     let mut start = 0;
-    for i in 0..text.len() {
-        if text[i] == separator {
-            if let Some(part) = text.get(start..i) {
+    for end in 0..=text.len() {
+        if end == text.len() || text[end] == separator {
+            if let Some(part) = text.get(start..end) {
                 parts.push(part)?;
             }
-            start = i.saturating_add(1);
+            start = end.saturating_add(1);
         }
-    }
-    if let Some(part) = text.get(start..text.len()) {
-        parts.push(part)?;
     }
     Ok(parts)
 }
@@ -29,7 +26,7 @@ pub fn cut<'a>(text: &'a [u8], separator: u8, heap: Global) -> Result<Vec<&'a [u
 // A decimal number with no sign. One that is too large counts as the largest that there is.
 pub fn unsigned(word: &[u8]) -> Result<usize, Problem> {
     if word.is_empty() {
-        return Err(Problem::Senseless(BAD_NUMBER));
+        return Err(Problem::NotNumber);
     }
     let mut number = 0usize;
     for letter in word {
@@ -37,7 +34,7 @@ pub fn unsigned(word: &[u8]) -> Result<usize, Problem> {
             b'0'..=b'9' => number = number
                 .saturating_mul(10)
                 .saturating_add(usize::from(*letter - b'0')),
-            _ => return Err(Problem::Senseless(BAD_NUMBER)),
+            _ => return Err(Problem::NotNumber),
         }
     }
     Ok(number)
@@ -45,25 +42,52 @@ pub fn unsigned(word: &[u8]) -> Result<usize, Problem> {
 
 // A decimal number that may have a sign. One that is too large or too small counts as the last that there is.
 pub fn signed(word: &[u8]) -> Result<i64, Problem> {
-    if let [b'-', digits @ ..] = word {
-        match i64::try_from(unsigned(digits)?) {
+    match word {
+        [b'-', digits @ ..] => match i64::try_from(unsigned(digits)?) {
             Ok(number) => Ok(number.wrapping_neg()),
             Err(_) => Ok(i64::MIN),
-        }
-    } else {
-        Ok(i64::try_from(unsigned(word)?).unwrap_or(i64::MAX))
+        },
+        digits => Ok(i64::try_from(unsigned(digits)?).unwrap_or(i64::MAX)),
     }
 }
 
-// A size in DVI units. One that no call can be given counts as the nearest that can; the library refuses both.
-pub fn size(word: &[u8]) -> Result<u32, Problem> {
-    let number = signed(word)?.max(0);
-    Ok(u32::try_from(number).unwrap_or(u32::MAX))
+// The numbers of a line that has so many of them and nothing else.
+pub fn all_unsigned<const N: usize>(words: &[&[u8]]) -> Result<[usize; N], Problem> {
+    if words.len() != N {
+        return Err(Problem::WrongCount);
+    }
+    let mut numbers = [0; N];
+    for i in 0..N {
+        match unsigned(words[i]) {
+            Ok(number) => numbers[i] = number,
+            Err(problem) => return Err(problem),
+        }
+    }
+    Ok(numbers)
 }
 
-// A font's number. One that no call can be given counts as the last, which no shelf has.
-pub fn font(word: &[u8]) -> Result<u16, Problem> {
-    Ok(u16::try_from(signed(word)?).unwrap_or(u16::MAX))
+pub fn all_signed<const N: usize>(words: &[&[u8]]) -> Result<[i64; N], Problem> {
+    if words.len() != N {
+        return Err(Problem::WrongCount);
+    }
+    let mut numbers = [0; N];
+    for i in 0..N {
+        match signed(words[i]) {
+            Ok(number) => numbers[i] = number,
+            Err(problem) => return Err(problem),
+        }
+    }
+    Ok(numbers)
+}
+
+// A size in DVI units. A number that no call can be given counts as the nearest that can; the library refuses both.
+pub fn size(number: i64) -> u32 {
+    u32::try_from(number.max(0)).unwrap_or(u32::MAX)
+}
+
+// A font. A number that no call can be given counts as the last, which no shelf has.
+pub fn font(number: i64) -> u16 {
+    u16::try_from(number).unwrap_or(u16::MAX)
 }
 
 // The bytes that a word spells by two digits each, or `-` for none.
@@ -73,33 +97,27 @@ pub fn bytes(word: &[u8], heap: Global) -> Result<Vec<u8>, Problem> {
     }
     let mut spelled = Vec::with_capacity(heap, word.len() / 2)?;
     for pair in word.chunks(2) {
-        let Some(byte) = byte_of(pair) else {
-            return Err(Problem::Senseless(BAD_BYTES));
-        };
-        spelled.push(byte)?;
+        match byte_of(pair) {
+            Some(byte) => spelled.push(byte)?,
+            None => return Err(Problem::NotBytes),
+        }
     }
     Ok(spelled)
 }
 
 // The four bytes of a fix_word as one number.
 pub fn fix_word(word: &[u8]) -> Result<u32, Problem> {
-    let [a, b, c, d, e, f, g, h] = word else {
-        return Err(Problem::Senseless(BAD_BYTES));
-    };
-    match (
-        byte_of(&[*a, *b]),
-        byte_of(&[*c, *d]),
-        byte_of(&[*e, *f]),
-        byte_of(&[*g, *h]),
-    ) {
-        (Some(first), Some(second), Some(third), Some(last)) => Ok(u32::from_be_bytes([
-            first,
-            second,
-            third,
-            last,
-        ])),
-        _ => Err(Problem::Senseless(BAD_BYTES)),
+    if word.len() != 8 {
+        return Err(Problem::NotBytes);
     }
+    let mut number = 0;
+    for letter in word {
+        match digit_of(*letter) {
+            Some(digit) => number = number << 4 | u32::from(digit),
+            None => return Err(Problem::NotBytes),
+        }
+    }
+    Ok(number)
 }
 
 fn byte_of(pair: &[u8]) -> Option<u8> {
@@ -123,7 +141,3 @@ fn digit_of(letter: u8) -> Option<u8>
         _ => None,
     }
 }
-
-const BAD_NUMBER: &str = "a word is no number";
-
-const BAD_BYTES: &str = "a word does not spell bytes";

@@ -1,6 +1,5 @@
 // Why a command did not do what it was asked.
 use std::alloc::AllocError;
-use std::alloc::Global;
 use std::alloc::Refused;
 use std::io;
 
@@ -12,6 +11,14 @@ pub enum Failure {
     Misused,
     Output(io::Error),
     NoMemory,
+}
+
+// A failure of these words, as `format!` gives them.
+pub fn told(words: Result<String, AllocError>) -> Failure {
+    match words {
+        Ok(words) => Failure::Told(words),
+        Err(_) => Failure::NoMemory,
+    }
 }
 
 pub impl From<io::Error> for Failure as FailureFromOutput {
@@ -29,12 +36,5 @@ pub impl From<AllocError> for Failure as FailureFromAlloc {
 pub impl<T: Drop> From<Refused<T>> for Failure as FailureFromRefused {
     fn from(_error: Refused<T>) -> Failure {
         Failure::NoMemory
-    }
-}
-
-pub fn told(heap: Global, text: &str) -> Failure {
-    match String::from_str(heap, text) {
-        Ok(text) => Failure::Told(text),
-        Err(_) => Failure::NoMemory,
     }
 }

@@ -1,66 +1,74 @@
 // `faces`: shows what a shelf of TFM files holds.
 ghost use Prim.Native.Nat.{_<_, _≤_};
-use crate::failure::Failure;
-use crate::failure::FailureFromOutput;
 use crate::fonts;
-use crate::options::Options;
-use crate::options::Sample;
 use crate::points::Points;
 use crate::points::PointsDisplay;
 use shelf::Face;
 use shelf::Mark;
 use shelf::Shelf;
-use std::io;
-use std::io::BufWriter;
-use std::io::Write;
+use terminal::Failure;
+use terminal::Options;
+use terminal::Output;
+use terminal::told;
 use tfm::TfmAsShelf;
+use tfm::TfmShelf;
 
-pub fn show(rt: &LibcRuntime, options: &Options) -> Result<(), Failure> {
-    let shelf = fonts::shelf_of(rt, options.fonts.as_slice())?;
-    let mut out = BufWriter::new(rt.stdout());
-    for k in 0..shelf.count().faces {
-        if k > 0 {
-            writeln!(out, "")?;
-        }
-        if let Some(face) = shelf.face(k) {
-            describe(&shelf, k, &face, &mut out)?;
-        }
-        if let Some(sample) = &options.sample {
-            measure(&shelf, k, sample, &mut out)?;
-        }
+pub fn show_faces(rt: &LibcRuntime, words: &[String]) -> Result<(), Failure> {
+    let heap = rt.alloc();
+    let options = Options::parse("faces", words, heap)?;
+    if options.fonts.is_empty() {
+        return Err(told(format!(heap, "faces: give at least one --tfm NAME=FILE")));
     }
-    out.flush()?;
-    Ok(())
+    if options.size.is_some() != options.text.is_some() {
+        return Err(told(format!(heap, "faces: --size and --text go together")));
+    }
+    let shelf = fonts::shelf_of(rt, options.fonts.as_slice())?;
+    let mut out = Output::new(rt);
+    list(&shelf, &options, &mut out);
+    out.finish()
 }
 
-fn describe<S: Shelf, W: Write>(shelf: &S, k: u16, face: &Face, out: &mut W) -> io::Result<()> {
-    write!(out, "face {k}  ")?;
-    out.write_all(face.name)?;
-    writeln!(out, "")?;
+fn list(shelf: &TfmShelf, options: &Options, out: &mut Output) {
+    for k in 0..shelf.count().faces {
+        if k > 0 {
+            writeln!(out, "");
+        }
+        if let Some(face) = shelf.face(k) {
+            describe(shelf, k, &face, out);
+        }
+        if let (Some(size), Some(text)) = (options.size, &options.text) {
+            measure(shelf, k, size, text.as_bytes(), out);
+        }
+    }
+}
+
+fn describe<S: Shelf>(shelf: &S, k: u16, face: &Face, out: &mut Output) {
+    write!(out, "face {k}  ");
+    out.write_bytes(face.name);
     let checksum = face.checksum;
-    writeln!(out, "  check sum    {checksum} (octal {checksum:o})")?;
+    writeln!(out, "\n  check sum    {checksum} (octal {checksum:o})");
     let design = Points(face.design);
-    writeln!(out, "  design size  {design} pt")?;
+    writeln!(out, "  design size  {design} pt");
     let characters = characters_of(shelf, k);
-    writeln!(out, "  characters   {characters}")
+    writeln!(out, "  characters   {characters}");
 }
 
 // The width of each byte of the text, and their sum.
-fn measure<S: Shelf, W: Write>(shelf: &S, k: u16, sample: &Sample, out: &mut W) -> io::Result<()> {
-    let size = sample.size;
-    writeln!(out, "  at size      {size}")?;
+fn measure<S: Shelf>(shelf: &S, k: u16, size: u32, text: &[u8], out: &mut Output) {
+    writeln!(out, "  at size      {size}");
     let mut sum = 0i64;
-    for code in sample.text.as_bytes() {
+    for code in text {
         let shown = shown(*code);
+        write!(out, "    {shown}  code {code:>3}  width ");
         match width_of(shelf, k, size, *code) {
             Some(width) => {
-                writeln!(out, "    {shown}  code {code:>3}  width {width:>11}")?;
+                writeln!(out, "{width:>11}");
                 sum = sum.saturating_add(width);
             }
-            None => writeln!(out, "    {shown}  code {code:>3}  width        none")?,
+            None => writeln!(out, "       none"),
         }
     }
-    writeln!(out, "  sum          {sum}")
+    writeln!(out, "  sum          {sum}");
 }
 
 // How many codes the face has a character for.
