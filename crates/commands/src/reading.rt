@@ -25,7 +25,7 @@ pub fn command_at(bytes: &[u8], at: usize) -> Option<(Command<'_>, usize)>
     command_of(kind, bytes, at, width)
 }
 
-// The command of a kind, with a parameter of `width` bytes.
+// The command of a kind, whose parameter has `width` bytes.
 fn command_of<'a>(
     kind: Kind,
     bytes: &'a [u8],
@@ -36,6 +36,7 @@ fn command_of<'a>(
     ensures is { λ r. ⌜ shapeOf r ≡ readAs kind (now (bytes .entry)) at width ⌝ }
     ensures within { λ r. ⌜ BySome r (Unit {0}) (λ p. (0 < p .1) × (at + p .1 ≤ length (now (bytes .entry)))) ⌝ }
 {
+    let place = at + 1;
     let n = 1 + width;
     match kind {
         Kind::SetChar => Some((
@@ -44,19 +45,19 @@ fn command_of<'a>(
             },
             1,
         )),
-        Kind::Set => match code_at(bytes, at + 1, width) {
+        Kind::Set => match code_at(bytes, place, width) {
             Some(code) => Some((Command::Set { code }, n)),
             None => None,
         },
-        Kind::SetRule => match sides_at(bytes, at + 1) {
+        Kind::SetRule => match sides_at(bytes, place) {
             Some((height, width)) => Some((Command::SetRule { height, width }, 9)),
             None => None,
         },
-        Kind::Put => match code_at(bytes, at + 1, width) {
+        Kind::Put => match code_at(bytes, place, width) {
             Some(code) => Some((Command::Put { code }, n)),
             None => None,
         },
-        Kind::PutRule => match sides_at(bytes, at + 1) {
+        Kind::PutRule => match sides_at(bytes, place) {
             Some((height, width)) => Some((Command::PutRule { height, width }, 9)),
             None => None,
         },
@@ -64,51 +65,54 @@ fn command_of<'a>(
         Kind::Eop => Some((Command::Eop, 1)),
         Kind::Push => Some((Command::Push, 1)),
         Kind::Pop => Some((Command::Pop, 1)),
-        Kind::Right => match length_at(bytes, at + 1, width) {
-            Some(b) => Some((Command::Right(b), n)),
+        Kind::Right => match length_at(bytes, place, width) {
+            Some(by) => Some((Command::Right(by), n)),
             None => None,
         },
         Kind::W0 => Some((Command::W0, 1)),
-        Kind::W => match length_at(bytes, at + 1, width) {
-            Some(b) => Some((Command::W(b), n)),
+        Kind::W => match length_at(bytes, place, width) {
+            Some(by) => Some((Command::W(by), n)),
             None => None,
         },
         Kind::X0 => Some((Command::X0, 1)),
-        Kind::X => match length_at(bytes, at + 1, width) {
-            Some(b) => Some((Command::X(b), n)),
+        Kind::X => match length_at(bytes, place, width) {
+            Some(by) => Some((Command::X(by), n)),
             None => None,
         },
-        Kind::Down => match length_at(bytes, at + 1, width) {
-            Some(b) => Some((Command::Down(b), n)),
+        Kind::Down => match length_at(bytes, place, width) {
+            Some(by) => Some((Command::Down(by), n)),
             None => None,
         },
         Kind::Y0 => Some((Command::Y0, 1)),
-        Kind::Y => match length_at(bytes, at + 1, width) {
-            Some(b) => Some((Command::Y(b), n)),
+        Kind::Y => match length_at(bytes, place, width) {
+            Some(by) => Some((Command::Y(by), n)),
             None => None,
         },
         Kind::Z0 => Some((Command::Z0, 1)),
-        Kind::Z => match length_at(bytes, at + 1, width) {
-            Some(b) => Some((Command::Z(b), n)),
+        Kind::Z => match length_at(bytes, place, width) {
+            Some(by) => Some((Command::Z(by), n)),
             None => None,
         },
         Kind::FntNum => Some((Command::Fnt(u32::from(bytes[at].saturating_sub(171))), 1)),
-        Kind::Fnt => match number_at(bytes, at + 1, width) {
-            Some(b) => Some((Command::Fnt(b), n)),
+        Kind::Fnt => match number_at(bytes, place, width) {
+            Some(number) => Some((Command::Fnt(number), n)),
             None => None,
         },
-        Kind::Xxx => {
-            let count = number_at(bytes, at + 1, width)? as usize;
-            if bytes.len() - at - n < count {
-                return None;
+        Kind::Xxx => match number_at(bytes, place, width) {
+            Some(count) => if bytes.len() - at - n < count as usize {
+                None
+            } else {
+                Some((Command::Xxx, n + count as usize))
+            },
+            None => None,
+        },
+        Kind::FntDef => match definition_at(bytes, at, width) {
+            Some(d) => {
+                let count = d.name.len();
+                Some((Command::FntDef(d), width + 15 + count))
             }
-            Some((Command::Xxx, n + count))
-        }
-        Kind::FntDef => {
-            let d = definition_at(bytes, at, width)?;
-            let count = d.name.len();
-            Some((Command::FntDef(d), width + 15 + count))
-        }
+            None => None,
+        },
         Kind::Undefined => Some((Command::Undefined, 1)),
     }
 }

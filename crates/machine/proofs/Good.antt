@@ -152,9 +152,9 @@ module _ (fs : List FaceMeaning) (fonts : ℕ) where
   good-faulty k = good-quiet (fault k []) refl
 
   pub good-bind : {A B : Type 0} (o : Outcome A) (f : A → Outcome B) → Good A fs fonts o → ((a : A) → Good B fs fonts (f a)) → Good B fs fonts (bind o f)
-  good-bind o f g h = by (o .ending) refl
+  good-bind {A} {B} o f g h = by (o .ending) refl
     where
-      by : (e : Ending _) → o .ending ≡ e → Good _ fs fonts (onward (o .marks) e f)
+      by : (e : Ending A) → o .ending ≡ e → Good B fs fonts (onward (o .marks) e f)
       by (well a) p = record { marks = all-append (GoodMark fs) (o .marks) (f a .marks) (g .marks) (h a .marks); chain = h a .chain }
       by (fault k ch) p = record { marks = g .marks; chain = subst (λ x. GoodChain fonts (chainOf x)) p (g .chain) }
 
@@ -166,9 +166,9 @@ module _ (fs : List FaceMeaning) (fonts : ℕ) where
       by false p = g
 
   pub good-link : {V : Type 0} (l : Link) (o : Outcome V) → l .font < fonts → Good V fs fonts o → Good V fs fonts (link l o)
-  good-link l o h g = record { marks = g .marks; chain = by (o .ending) (g .chain) }
+  good-link {V} l o h g = record { marks = g .marks; chain = by (o .ending) (g .chain) }
     where
-      by : (e : Ending _) → GoodChain fonts (chainOf e) → GoodChain fonts (chainOf (linkEnding l e))
+      by : (e : Ending V) → GoodChain fonts (chainOf e) → GoodChain fonts (chainOf (linkEnding l e))
       by (well v) p = p
       by (fault k ch) p = good-longer l h ch p
 

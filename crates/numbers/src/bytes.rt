@@ -61,7 +61,7 @@ pub fn write_signed(bytes: &mut [u8], place: usize, width: usize, z: i64) -> Opt
     ensures bytes { λ _. ⌜ now (bytes .exit) ≡ signedWritten (now (bytes .entry)) place width z ⌝ }
     ensures again { λ r. ⌜ BySome r (Unit {0}) (λ _. signedAt (now (bytes .exit)) place width ≡ Some z) ⌝ }
 {
-    let n = complement_of(z, width)?;
+    let n = complement(z, width)?;
     write_unsigned(bytes, place, width, n)
 }
 
@@ -96,8 +96,8 @@ fn signed_of(n: u32, width: usize) -> i64
     }
 }
 
-// The two's complement of a number that fits the width.
-fn complement_of(z: i64, width: usize) -> Option<u32>
+// The unsigned number whose bytes are a number's in two's complement; none where it does not fit the width.
+pub fn complement(z: i64, width: usize) -> Option<u32>
     ensures { λ r. ⌜ r ≡ complementAt width z ⌝ }
 {
     match width {

@@ -5,6 +5,7 @@ mod keyed;
 mod lengths;
 mod parts;
 
+pub use bytes::complement;
 pub use bytes::signed_at;
 pub use bytes::unsigned_at;
 pub use bytes::write_signed;

@@ -1,0 +1,4 @@
+pub mod Fonts
+pub mod Packets
+pub mod Files
+pub mod Cases
