@@ -42,7 +42,7 @@ startAt c font = record { at = record { h = c .h; v = c .v; w = pos 0; x = pos 0
 abbrev pub packetRun : Meaning → VfFont → List ℕ → Character → Packet → Outcome (Unit {0})
 packetRun m f file c p =
     bind (link (linkOf c (p .start)) (ends [] (endingOf (firstFont f (c .size)))))
-      (λ font. runFrom (packetWorld m f c) (take (p .start + p .length) file) (p .start) (startAt c font))
+    (λ font. runFrom (packetWorld m f c) (take (p .start + p .length) file) (p .start) (startAt c font))
 
 abbrev pub wideRun : Meaning → VfFont → List ℕ → Character → Packet → Option ℤ → Outcome ℤ
 wideRun m f file c p (Some l) = bind (packetRun m f file c p) (λ u. ends [] (well l))

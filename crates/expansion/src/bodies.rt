@@ -42,6 +42,10 @@ pub(crate) impl<'a> Body for PacketBody<'a> as PacketAsBody {
     }
 
     fn link(&self, place: usize) -> Link {
-        Link { font: self.font, code: u16::from(self.code), place }
+        Link {
+            font: self.font,
+            code: u16::from(self.code),
+            place,
+        }
     }
 }

@@ -34,14 +34,27 @@ pub struct Asked {
 }
 
 // The character of the VF file's font: the marks and faults of its packet, and the packet's width.
-pub fn expand<S: Shelf>(below: &S, vf: &Vf, file: &[u8], asked: Asked, chain: &mut [Link], marks: &mut [Mark]) -> Result<(usize, i64), Refusal>
+pub fn expand<S: Shelf>(
+    below: &S,
+    vf: &Vf,
+    file: &[u8],
+    asked: Asked,
+    chain: &mut [Link],
+    marks: &mut [Mark],
+) -> Result<(usize, i64), Refusal>
     ensures { λ r. ⌜ Answered (expanded (means (now (below .entry))) (fontOf (now (vf .entry))) (now (file .entry)) (record { font = asked .font; size = asked .size; code = asked .code; h = asked .h; v = asked .v })) (now (chain .entry)) (now (chain .exit)) (now (marks .entry)) (now (marks .exit)) r ⌝ }
 {
     let Some(packet) = vf.packet(asked.code) else {
-        return Err(Refusal::Fault { cause: Cause::NoCode, links: 0 });
+        return Err(Refusal::Fault {
+            cause: Cause::NoCode,
+            links: 0,
+        });
     };
     let Some(width) = scale(packet.width, asked.size) else {
-        return Err(Refusal::Fault { cause: Cause::BadSize, links: 0 });
+        return Err(Refusal::Fault {
+            cause: Cause::BadSize,
+            links: 0,
+        });
     };
     match run_packet(below, vf, file, asked, packet, chain, marks) {
         Ok(n) => Ok((n, width)),
@@ -50,17 +63,45 @@ pub fn expand<S: Shelf>(below: &S, vf: &Vf, file: &[u8], asked: Asked, chain: &m
 }
 
 // Runs a packet of the file, from its first local font on.
-fn run_packet<S: Shelf>(below: &S, vf: &Vf, file: &[u8], asked: Asked, packet: Packet, chain: &mut [Link], marks: &mut [Mark]) -> Result<usize, Refusal>
+fn run_packet<S: Shelf>(
+    below: &S,
+    vf: &Vf,
+    file: &[u8],
+    asked: Asked,
+    packet: Packet,
+    chain: &mut [Link],
+    marks: &mut [Mark],
+) -> Result<usize, Refusal>
     ensures { λ r. ⌜ Answered (packetRun (means (now (below .entry))) (fontOf (now (vf .entry))) (now (file .entry)) (record { font = asked .font; size = asked .size; code = asked .code; h = asked .h; v = asked .v }) packet) (now (chain .entry)) (now (chain .exit)) (now (marks .entry)) (now (marks .exit)) (counted r) ⌝ }
 {
-    let body = PacketBody { vf, font: asked.font, size: asked.size, code: asked.code };
+    let body = PacketBody {
+        vf,
+        font: asked.font,
+        size: asked.size,
+        code: asked.code,
+    };
     match first_font(vf, asked.size) {
         Ok(font) => {
-            let at = Registers { h: asked.h, v: asked.v, w: 0, x: 0, y: 0, z: 0 };
-            let mut m = Machine { at, font, frames: Frames::new() };
+            let at = Registers {
+                h: asked.h,
+                v: asked.v,
+                w: 0,
+                x: 0,
+                y: 0,
+                z: 0,
+            };
+            let mut m = Machine {
+                at,
+                font,
+                frames: Frames::new(),
+            };
             let bytes = part(file, 0, packet.start.saturating_add(packet.length));
             run(below, &body, bytes, packet.start, &mut m, chain, marks)
         }
-        Err(cause) => Err(pass_on(Refusal::Fault { cause, links: 0 }, body.link(packet.start), chain)),
+        Err(cause) => Err(pass_on(
+            Refusal::Fault { cause, links: 0 },
+            body.link(packet.start),
+            chain,
+        )),
     }
 }

@@ -56,5 +56,8 @@ fn sized_at(font: u16, size: Option<i64>) -> Result<Chosen, Cause>
     if size < 1 || size > 134_217_727 {
         return Err(Cause::BadSize);
     }
-    Ok(Chosen { font, size: size as u32 })
+    Ok(Chosen {
+        font,
+        size: size as u32,
+    })
 }

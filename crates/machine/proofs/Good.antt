@@ -186,6 +186,7 @@ module _ (fs : List FaceMeaning) (fonts : ℕ) where
               (omega (arith, ltb-true 0 m (both .0)), omega (arith, ltb-true m 2147483648 (both .1)))
           by false p q = absurd (let z : _≡_ {A = ℕ} 0 1 = cc in omega arith)
       sided (negsuc m) n e = absurd (let z : _≡_ {A = ℕ} 0 1 = cc in omega arith)
+
       by-sides : inRange (r .h) ≡ true → inRange (r .v) ≡ true → (x y : Option ℕ) → side a ≡ x → side b ≡ y → Good ℤ fs fonts (drawn (Some (r .h, r .v)) (sides x y) l)
       by-sides p q (Some n) (Some m) e f =
           let na = sided a n e in
@@ -193,6 +194,7 @@ module _ (fs : List FaceMeaning) (fonts : ℕ) where
           record { marks = ((p, q, (na .0, na .1, nb .0, nb .1)), tt); chain = (omega arith, tt) }
       by-sides p q (Some n) None e f = record { marks = tt; chain = (omega arith, tt) }
       by-sides p q None y e f = record { marks = tt; chain = (omega arith, tt) }
+
       by-point : (t : Bool) → (inRange (r .h) && inRange (r .v)) ≡ t → Good ℤ fs fonts (drawn (cond t (Some (r .h, r .v)) None) (sides (side a) (side b)) l)
       by-point true p = let both = and-parts (inRange (r .h)) (inRange (r .v)) p in by-sides (both .0) (both .1) (side a) (side b) refl refl
       by-point false p = good-faulty OutOfRange
@@ -212,7 +214,7 @@ module _ (u : World) (fonts : ℕ) (law : Lawful (u .below)) (few : length (u .b
           let t = passed (length (u .below .names)) font size h v p e in
           let g = law .good-outcomes font size code h v (t .within) (t .sized) (t .across) (t .down) in
           subst (Good ℤ (u .below .faces) fonts) (sym (called-runs (u .below) font size code h v p e))
-            (record { marks = g .good-marks; chain = ending (u .below .outcome font size code h v .ending) (g .good-ending) })
+          (record { marks = g .good-marks; chain = ending (u .below .outcome font size code h v .ending) (g .good-ending) })
         where
           ending : (x : Ending ℤ) → GoodEnding (length (u .below .names)) x → GoodChain fonts (chainOf x)
           ending (well w) q = (omega arith, tt)
