@@ -1,5 +1,7 @@
 // A character of a virtual font over the shelf below.
 ghost use mathlib.Core.Path.{_≡_};
+ghost use Prim.Native.Nat.{_+_};
+ghost use lib.ListN.{take};
 ghost use Rattle.shelf.specs.Answers.{Answered};
 ghost use Rattle.machine.specs.Views.{counted};
 ghost use Rattle.vf.specs.Fonts.{fontOf};
@@ -95,7 +97,7 @@ fn run_packet<S: Shelf>(
                 font,
                 frames: Frames::new(),
             };
-            let bytes = part(file, 0, packet.start.saturating_add(packet.length));
+            let bytes = front(file, packet.start, packet.length);
             run(below, &body, bytes, packet.start, &mut m, chain, marks)
         }
         Err(cause) => Err(pass_on(
@@ -103,5 +105,15 @@ fn run_packet<S: Shelf>(
             body.link(packet.start),
             chain,
         )),
+    }
+}
+
+// The file up to a packet's end, so that places in it are the file's.
+fn front<'a>(file: &'a [u8], start: usize, length: usize) -> &'a [u8]
+    ensures { λ r. ⌜ now r ≡ take (start + length) (now (file .entry)) ⌝ }
+{
+    match start.checked_add(length) {
+        Some(end) => part(file, 0, end),
+        None => file,
     }
 }

@@ -1,7 +1,7 @@
 -- Worked files: a file of 40 bytes over a shelf whose one font is `b`, and what breaks it where.
 use mathlib.Core.Path.{_≡_}
 use mathlib.Core.List.{List, [], _∷_, _++_}
-use Prim.Native.Nat.{ℕ, zero, suc, _+_}
+use Prim.Native.Nat.{ℕ, zero, suc}
 use lib.ListN.{length, take, drop, getD, set}
 use Rattle.std.specs.declared.option.Option.{Option}
 use Rattle.std.specs.declared.option.Option.the-variants.{Some, None}
@@ -69,6 +69,7 @@ Whole =
     × (packetOf (read good) 1 ≡ Some (record { start = 33; length = 5; width = 2048 }))
     × (packetOf (read good) 2 ≡ None)
     × (packetOf (read (preamble ++ (longPacket (255 ∷ 248 ∷ 0 ∷ 0 ∷ []) ++ ending))) 1 ≡ Some (record { start = 24; length = 5; width = 4294443008 }))
+    × (packetOf (read (247 ∷ 202 ∷ 2 ∷ 104 ∷ 105 ∷ drop 3 good)) 1 ≡ Some (record { start = 35; length = 5; width = 2048 }))
     × (localsOf (read (preamble ++ ending)) ≡ [])
     × (length (localsOf (read (preamble ++ (definitions 16 ++ ending)))) ≡ 16)
 
@@ -108,4 +109,4 @@ Endings =
     × (read preamble ≡ Err (BrokenVf 11))
 
 abbrev pub Worked-files : Type 0
-Worked-files = Whole × (Preambles × (Definitions × (Packets × Endings)))
+Worked-files = Whole × Preambles × Definitions × Packets × Endings

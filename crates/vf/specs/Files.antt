@@ -1,7 +1,7 @@
 -- A VF file, read front to back: preamble, definitions, packets, and one or more bytes 248.
 use mathlib.Core.Bool.{Bool, cond, _&&_}
 use mathlib.Core.List.{List}
-use Prim.Native.Nat.{ℕ, zero, suc, _+_, _-_}
+use Prim.Native.Nat.{ℕ, zero, suc, _+_, _-_, _^_}
 use lib.Dec.{leb, ltb, eqb}
 use lib.ListN.{length, getD}
 use Rattle.std.specs.declared.option.Option.{Option}
@@ -40,11 +40,11 @@ Step = Reading × Result ℕ Refusal
 abbrev broken : ℕ → Reading → Step
 broken at t = (t, Err (BrokenVf at))
 
--- a fix_word above 0, by its four bytes
+-- a fix_word above 0, by its four bytes: the first of them is 0
 abbrev pub positive : ℕ → Bool
-positive n = ltb 0 n && ltb n 16777216
+positive n = ltb 0 n && ltb n (2 ^ 24)
 
--- a definition whose number has w bytes, by its parts: the font below, the number, the size, the room
+-- a definition whose number has w bytes: a font of its name is below, no other has its number, its size is positive
 abbrev placed : ℕ → ℕ → Reading → Defined → Option ℕ → Step
 placed at w t d None = (t, Err (NotBelow at))
 placed at w t d (Some f) = (record { phase = t .phase; font = withLocal (t .font) (record { number = d .number; font = f; size = d .size }) }, Ok (at + w + 15 + length (d .name)))

@@ -2,8 +2,8 @@
 -- three has four bytes, and otherwise with its length in one byte, the code in one and the width in three.
 use mathlib.Core.Bool.{Bool, cond, _||_}
 use mathlib.Core.List.{List}
-use Prim.Native.Nat.{ℕ, _+_}
-use lib.Dec.{leb, ltb, eqb}
+use Prim.Native.Nat.{ℕ, _+_, _/_, _^_}
+use lib.Dec.{leb, eqb}
 use lib.ListN.{length, getD}
 use Rattle.std.specs.declared.option.Option.{Option}
 use Rattle.std.specs.declared.option.Option.the-variants.{Some, None}
@@ -12,7 +12,7 @@ use Rattle.vf.specs.declared.packets.Coded.{Coded}
 
 -- the first of the four bytes is 0 or 255
 abbrev pub fixWord : ℕ → Bool
-fixWord n = ltb n 16777216 || leb 4278190080 n
+fixWord n = eqb (n / 2 ^ 24) 0 || eqb (n / 2 ^ 24) 255
 
 -- a packet with n bytes from a place on
 abbrev pub held : List ℕ → ℕ → ℕ → ℕ → ℕ → Option Coded

@@ -1,6 +1,6 @@
 // A packet, read at a place.
 ghost use mathlib.Core.Path.{_≡_};
-ghost use Prim.Native.Nat.{_+_, _^_, _<_, _≤_};
+ghost use Prim.Native.Nat.{_+_, _<_, _≤_};
 ghost use lib.ListN.{length};
 ghost use Rattle.std.specs.Options.{Cases as BySome};
 ghost use Rattle.numbers.specs.Bytes.{number};
@@ -94,7 +94,8 @@ fn hold(file: &[u8], code: u8, start: usize, n: usize, width: u32) -> Option<Cod
 fn is_fix_word(word: u32) -> bool
     ensures { λ r. ⌜ r ≡ fixWord word ⌝ }
 {
-    word < 16_777_216 || word >= 4_278_190_080
+    let first = word / 16_777_216;
+    first == 0 || first == 255
 }
 
 // The number in 1 to 4 bytes that stand in the file.

@@ -55,7 +55,7 @@ fn first_item(file: &[u8]) -> Option<usize>
     }
 }
 
-// Whether four bytes are a fix_word above 0.
+// Whether four bytes are a fix_word above 0, whose first byte is then 0.
 fn is_positive(word: u32) -> bool
     ensures { λ r. ⌜ r ≡ positive word ⌝ }
 {

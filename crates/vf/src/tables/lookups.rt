@@ -13,6 +13,9 @@ use crate::tables::Vf;
 use numbers::Keyed;
 use numbers::first_match;
 
+// A VF file has at most so many local fonts.
+const MAX_LOCALS: usize = 16;
+
 impl Keyed<u32> for Local as ByNumber {
     ghost has = { λ l k. eqb (l .number) k };
 
@@ -77,7 +80,7 @@ impl Vf {
     pub(crate) fn is_full(&self) -> bool
         ensures { λ r. ⌜ r ≡ leb 16 (length (fontOf (now (self .entry)) .locals)) ⌝ }
     {
-        self.count >= 16
+        self.count >= MAX_LOCALS
     }
 
     pub(crate) fn add_local(&mut self, l: Local)

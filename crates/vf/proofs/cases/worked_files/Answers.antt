@@ -7,15 +7,9 @@ use Rattle.vf.proofs.cases.worked_files.Needs as need
 pub returns : need.returns
 unfolding walk foundIn vfOf
 returns c = (
-  (refl, refl, refl, refl, refl, refl, refl),
-  (
-    (refl, refl, refl),
-    (
-      (refl, refl, refl, refl, refl, refl, refl, refl, refl, refl),
-      (
-        (refl, refl, refl, refl),
-        (refl, refl, refl, refl),
-      ),
-    ),
-  ),
+  (refl, refl, refl, refl, refl, refl, refl, refl),
+  (refl, refl, refl),
+  (refl, refl, refl, refl, refl, refl, refl, refl, refl, refl),
+  (refl, refl, refl, refl),
+  (refl, refl, refl, refl),
 )

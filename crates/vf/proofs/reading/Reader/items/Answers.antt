@@ -1,5 +1,5 @@
 -- An item's refusal, one item on, and the end of the file.
-use mathlib.Core.Path.{_≡_, sym, ap, _∙_}
+use mathlib.Core.Path.{sym, ap, _∙_}
 use Rattle.std.proofs.shelf.Results.{err-from-errBy}
 use Rattle.vf.specs.Files.{readingOf, ended}
 use Rattle.vf.proofs.Walks.{turn, broke, done, unfinished}
