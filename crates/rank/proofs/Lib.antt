@@ -1,0 +1,5 @@
+pub mod Named
+pub mod Stored
+pub mod Calls
+pub mod Lawfuls
+pub mod Adds

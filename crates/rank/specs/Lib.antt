@@ -1,0 +1,4 @@
+pub mod Laid
+pub mod Entries
+pub mod Ranks
+pub mod Adding

@@ -1,0 +1,9 @@
+// Virtual fonts over any shelf, and again a shelf.
+mod adding;
+mod fonts;
+mod naming;
+mod ranks;
+mod serving;
+
+pub use ranks::Rank;
+pub use serving::RankAsShelf;
