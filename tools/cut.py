@@ -9,7 +9,7 @@ crates/replays/stdout, wherever it is started from.
 import os
 import sys
 
-KINDS = 'case bytes fill file scale tfm alone count find face character'.split()
+KINDS = 'case bytes fill file scale tfm rank add alone count find face character'.split()
 
 REPLAYS = os.path.join(os.path.dirname(os.path.abspath(__file__)), os.pardir, 'crates', 'replays')
 

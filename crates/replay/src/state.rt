@@ -83,6 +83,8 @@ impl State {
         let done = match call {
             Call::Scale => calls::scale(words, out),
             Call::Tfm => self.make_shelf(words, heap, out),
+            Call::Rank => self.put_rank(words, heap, out),
+            Call::Add => self.add_file(words, heap, out),
             Call::Alone => self.take_faces(words, out),
             Call::Ask(query) => self.shelf.ask(query, words, heap, out),
         };
@@ -125,6 +127,32 @@ impl State {
         let bytes = self.store.find(name)?;
         let entries = entries_of(places, heap)?;
         Ok(TfmShelf::new(bytes, entries.as_slice(), heap))
+    }
+
+    // `rank`
+    fn put_rank(&mut self, words: &[&[u8]], heap: Global, out: &mut Output) -> Result<(), Problem> {
+        if !words.is_empty() {
+            return Err(Problem::WrongCount);
+        }
+        self.shelf.takes_rank()?;
+        let shelf = std::mem::replace(&mut self.shelf, Current::Missing);
+        self.shelf = shelf.ranked(heap)?;
+        answers::ok(&[], out);
+        Ok(())
+    }
+
+    // `add NAMEHEX ID`
+    fn add_file(&mut self, words: &[&[u8]], heap: Global, out: &mut Output) -> Result<(), Problem> {
+        let [name, id] = words else {
+            return Err(Problem::WrongCount);
+        };
+        let name = script::bytes(name, heap)?;
+        let file = self.store.find(id)?;
+        match self.shelf.add(name.as_slice(), file)? {
+            Ok(()) => answers::ok(&[], out),
+            Err(refusal) => answers::refusal(refusal, out),
+        }
+        Ok(())
     }
 
     // `alone`

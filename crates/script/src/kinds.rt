@@ -19,6 +19,8 @@ pub enum Definition {
 pub enum Call {
     Scale,
     Tfm,
+    Rank,
+    Add,
     Alone,
     Ask(Query),
 }
@@ -41,12 +43,14 @@ pub fn kind_of(word: &[u8]) -> Option<Kind> {
     None
 }
 
-static KINDS: [(&str, Kind); 10] = [
+static KINDS: [(&str, Kind); 12] = [
     ("bytes", Kind::Define(Definition::Bytes)),
     ("fill", Kind::Define(Definition::Fill)),
     ("file", Kind::Define(Definition::File)),
     ("scale", Kind::Do(Call::Scale)),
     ("tfm", Kind::Do(Call::Tfm)),
+    ("rank", Kind::Do(Call::Rank)),
+    ("add", Kind::Do(Call::Add)),
     ("alone", Kind::Do(Call::Alone)),
     ("count", Kind::Do(Call::Ask(Query::Count))),
     ("find", Kind::Do(Call::Ask(Query::Find))),

@@ -14,6 +14,8 @@ pub enum Problem {
     NoSuchBytes,
     NoSuchFile,
     NoShelf,
+    NoRank,
+    NoRankHere,
     NoMemory,
 }
 
@@ -30,6 +32,8 @@ impl Problem {
             Problem::NoSuchBytes => "no bytes of that name",
             Problem::NoSuchFile => "the file cannot be read",
             Problem::NoShelf => "no shelf yet",
+            Problem::NoRank => "the shelf is no rank",
+            Problem::NoRankHere => "a script has at most four ranks, and none over the faces alone",
             Problem::NoMemory => "no memory",
         }
     }
