@@ -27,7 +27,9 @@ use vf::Vf;
 use vf::read_vf;
 
 const MAX_FILES: usize = 8;
+
 const MAX_BYTES: usize = 32_768;
+
 const MAX_FONTS: u16 = 4096;
 
 impl<S: Shelf + Drop> Rank<S> {
@@ -37,7 +39,11 @@ impl<S: Shelf + Drop> Rank<S> {
     {
         let bytes = Vec::with_capacity(heap, MAX_BYTES)?;
         let fonts = Vec::with_capacity(heap, MAX_FILES)?;
-        Ok(Rank { below, bytes, fonts })
+        Ok(Rank {
+            below,
+            bytes,
+            fonts,
+        })
     }
 }
 
@@ -76,7 +82,12 @@ impl<S: Shelf> Rank<S> {
         if self.bytes.extend_from_slice(file).is_err() {
             return;
         }
-        self.fonts.push_reserved(Font { name, start, length, vf });
+        self.fonts.push_reserved(Font {
+            name,
+            start,
+            length,
+            vf,
+        });
     }
 
     // Adds a file under a name, or refuses it and leaves the rank as it was.
@@ -86,7 +97,12 @@ impl<S: Shelf> Rank<S> {
         ensures sound { λ _. ⌜ (RankOk (means (now (self .entry) .below)) (entriesOf (vec-items (now (self .entry) .bytes)) (vec-items (now (self .entry) .fonts))) → RankOk (means (now (self .exit) .below)) (entriesOf (vec-items (now (self .exit) .bytes)) (vec-items (now (self .exit) .fonts)))) ⌝ }
         ensures same { λ r. ⌜ ByOk r (λ _. Unit {0}) (λ _. now (self .exit) ≡ now (self .entry)) ⌝ }
     {
-        if no_room(self.fonts.len(), self.bytes.len(), self.count().fonts, file.len()) {
+        if no_room(
+            self.fonts.len(),
+            self.bytes.len(),
+            self.count().fonts,
+            file.len(),
+        ) {
             return Err(Refusal::ShelfFull);
         }
         let Some(kept) = self.new_name(name) else {

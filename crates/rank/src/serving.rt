@@ -45,7 +45,10 @@ pub impl<S: Shelf> Shelf for Rank<S> as RankAsShelf {
 
     fn count(&self) -> Count {
         let below = self.below.count();
-        Count { fonts: below.fonts + self.own().len() as u16, faces: below.faces }
+        Count {
+            fonts: below.fonts + self.own().len() as u16,
+            faces: below.faces,
+        }
     }
 
     fn find(&self, name: &[u8]) -> Option<u16> {
@@ -83,6 +86,19 @@ pub impl<S: Shelf> Shelf for Rank<S> as RankAsShelf {
         }
         let f = &fonts[(font - base) as usize];
         let file = part(self.bytes.as_slice(), f.start, f.length);
-        expand(&self.below, &f.vf, file, Asked { font, size, code, h, v }, chain, marks)
+        expand(
+            &self.below,
+            &f.vf,
+            file,
+            Asked {
+                font,
+                size,
+                code,
+                h,
+                v,
+            },
+            chain,
+            marks,
+        )
     }
 }

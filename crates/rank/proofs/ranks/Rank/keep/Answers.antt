@@ -12,10 +12,16 @@ ghost-self-2 g c =
     let fs = vec-items (c .args .self .now .fonts) in
     let items : vec-items (c .extend-from-slice .last .self) ≡ bs ++ c .args .file .now = search needs in
     let start : c .len-start .result ≡ length bs = search needs in
-    let fonts = c .push-reserved .ensures .items in
-    (search needs, (search needs,
-      (still-whole bs fs _ (c .args .file .now) _ _ items fonts start refl (c .args .self .now .whole),
-      (still-laid bs fs _ (c .args .file .now) _ _ items fonts start refl (c .args .self .now .laid), tt))))
+    let fonts = c .push-reserved .ensures .items in (
+      search needs,
+      (
+        search needs,
+        (
+          still-whole bs fs _ (c .args .file .now) _ _ items fonts start refl (c .args .self .now .whole),
+          (still-laid bs fs _ (c .args .file .now) _ _ items fonts start refl (c .args .self .now .laid), tt),
+        ),
+      ),
+    )
 
 pub returns : need.returns
 returns g c =
