@@ -3,3 +3,4 @@ pub mod Stored
 pub mod Calls
 pub mod Lawfuls
 pub mod Adds
+pub mod Filed

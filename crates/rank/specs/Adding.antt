@@ -14,6 +14,7 @@ use Rattle.shelf.specs.Meaning.{Meaning}
 use Rattle.shelf.specs.Names.{goodName, foundIn}
 use Rattle.vf.specs.Files.{vfOf}
 use Rattle.vf.specs.Fonts.{VfFont}
+use Rattle.rank.specs.declared.filing.Offer.{Offer}
 use Rattle.rank.specs.Entries.{Entry, inAll}
 use Rattle.rank.specs.Ranks.{rankOf}
 
@@ -42,3 +43,27 @@ abbrev pub added : Meaning → List Entry → List ℕ → List ℕ → Added
 added m es name file =
     cond (lacking (length es) (inAll es) (length (rankOf m es .names)) (length file)) (es, Err ShelfFull)
     (cond (free (rankOf m es .names) name) (readInto es name file (vfOf (m .names) file)) (es, Err VfName))
+
+-- a name and a file, as they are given
+pub record Given : Type 0 where
+  pub name : List ℕ
+  pub file : List ℕ
+
+abbrev pub givenBy : Offer → Given
+givenBy o = record { name = o .name .now; file = o .file .now }
+
+-- the files afterwards, and an answer to each
+abbrev pub AllAdded : Type 0
+AllAdded = List Entry × List (Result (Unit {0}) Refusal)
+
+abbrev pub answered : AllAdded → Added → AllAdded
+answered before after = (after .0, before .1 ++ after .1 ∷ [])
+
+-- one file more
+abbrev pub nextAdded : Meaning → AllAdded → Given → AllAdded
+nextAdded m before g = answered before (added m (before .0) (g .name) (g .file))
+
+-- files added one after the other: which are taken, and how each is answered, is a function of the shelf below and the list
+unfoldable pub addedAll : Meaning → AllAdded → List Given → AllAdded
+addedAll m before [] = before
+addedAll m before (g ∷ gs) = addedAll m (nextAdded m before g) gs
