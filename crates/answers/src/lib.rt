@@ -1,4 +1,6 @@
 // How the library's answers are told: in lines of words and numbers, and refusals also in plain words.
+#![tactic(auto)]
+
 mod lines;
 mod lists;
 mod meanings;

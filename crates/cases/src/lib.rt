@@ -1,4 +1,6 @@
 // Worked examples: those about definitions as one theorem, those about calls as tests.
+#![tactic(auto)]
+
 ghost use Rattle.cases.specs.Worked.{WorkedValues};
 
 #[cfg(test)]

@@ -1,4 +1,6 @@
 // Chooses the command that the arguments ask for. The program's `main` calls `run` alone.
+#![tactic(auto)]
+
 mod commands;
 mod usage;
 

@@ -1,4 +1,6 @@
 // The commands of pages and packets, as they are read at a place of a document or a VF file.
+#![tactic(auto)]
+
 mod definitions;
 mod kinds;
 mod parts;

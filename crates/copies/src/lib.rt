@@ -1,4 +1,6 @@
 // Copies: the pairs of a copy, and the bytes of its pages and of its closing.
+#![tactic(auto)]
+
 mod pairs;
 
 pub use pairs::Pair;

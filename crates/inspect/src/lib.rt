@@ -1,4 +1,6 @@
 // The commands that show what fonts hold.
+#![tactic(auto)]
+
 mod faces;
 mod fonts;
 mod points;

@@ -1,4 +1,6 @@
 // The machine: runs the commands of a page or a packet over a shelf, and makes their marks.
+#![tactic(auto)]
+
 mod body;
 mod frames;
 mod making;

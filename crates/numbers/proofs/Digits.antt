@@ -1,5 +1,5 @@
 -- The bytes of a number, and the number in those bytes: the round trip, over the width. Assumes nothing.
-use Rattle.std.proofs.Common.{◌≡◌, ℕ, zero, suc, ◌+◌, ◌-◌, ◌*◌, ◌/◌, ◌%◌, ◌^◌, ◌<◌, ◌≤◌, true, List, [], ◌∷◌, ◌++◌, length, get_or, drop, ℤ, pos, negsuc, ◌-ℤ◌, sym, refl, ap, ◌∙◌, mod-eq_of_lt, mul_assoc, pow-suc, zero-add, arith, length-append, rules}
+use Rattle.std.proofs.Common.{◌≡◌, ℕ, zero, suc, ◌+◌, ◌-◌, ◌*◌, ◌/◌, ◌%◌, ◌^◌, ◌<◌, ◌≤◌, true, List, [], ◌∷◌, ◌++◌, length, get_or, drop, ℤ, pos, negsuc, sym, refl, ap, ◌∙◌, mod-eq_of_lt, mul_assoc, pow-suc, zero-add, arith, length-append, rules}
 use native.Mathlib.Nat.{pow-le-pow_right}
 use lib.Seq.{paste}
 use Rattle.std.proofs.lemmas.List.{get_or_append_left, get_or_push, places}

@@ -1,7 +1,7 @@
 -- What a write leaves, and that it is read again. Assumes nothing.
-use Rattle.std.proofs.Common.{◌≡◌, ℕ, ◌+◌, ◌^◌, ◌<◌, ◌≤◌, Bool, true, false, cond, ◌&&◌, ltb, leb, List, length, ℤ, IfSome, Some, None, Option, sym, refl, ap, ◌∙◌, arith}
+use Rattle.std.proofs.Common.{◌≡◌, ℕ, ◌+◌, ◌^◌, ◌≤◌, Bool, true, false, cond, ◌&&◌, ltb, leb, List, length, ℤ, IfSome, Some, None, Option, sym, refl, ap, ◌∙◌, arith}
 use lib.Seq.{paste}
-use Rattle.std.proofs.lemmas.Bool.{le-leb, leb-true, ltb-true, cond-true, cond-false, and_parts, and_from}
+use Rattle.std.proofs.lemmas.Bool.{le-leb, leb-true, ltb-true, cond-true, and_parts, and_from}
 use Rattle.numbers.specs.Bytes.{is_width, readable, number, number_at, signed, signed_at, digits, fitting, written, written_to, signed_fits, complement, complement_at, signed_written, signed_written_to}
 use Rattle.numbers.proofs.Digits.{paste-number, length-paste-digits, signed-complement}
 

@@ -1,4 +1,6 @@
 // Numbers in files, lengths and fix_words, and the one search that serves every table.
+#![tactic(auto)]
+
 mod bytes;
 mod fix_words;
 mod keyed;

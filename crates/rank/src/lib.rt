@@ -1,4 +1,6 @@
 // Virtual fonts over any shelf, and again a shelf.
+#![tactic(auto)]
+
 mod adding;
 mod filing;
 mod fonts;

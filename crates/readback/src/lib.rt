@@ -1,4 +1,6 @@
 // Pages that were written read back as their marks.
+#![tactic(auto)]
+
 ghost use Rattle.readback.specs.Cases.{WorkedMarks};
 ghost use Rattle.readback.specs.Reading.{PagesReadBack};
 

@@ -1,1 +1,2 @@
 // Pages read over a shelf: the marks of a document's page, and how it ends.
+#![tactic(auto)]

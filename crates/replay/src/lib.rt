@@ -1,4 +1,6 @@
 // `replay`: runs a script of calls on the library, and prints the answer to each.
+#![tactic(auto)]
+
 mod calls;
 mod current;
 mod state;

@@ -1,4 +1,6 @@
 // The text of a script: its lines and words, the numbers and bytes that they spell, and the byte strings that it names.
+#![tactic(auto)]
+
 mod kinds;
 mod problems;
 mod store;

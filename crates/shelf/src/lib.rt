@@ -1,4 +1,6 @@
 // Shelves of fonts: marks, refusals, what every shelf means and keeps to, and the faces of a shelf as a shelf.
+#![tactic(auto)]
+
 mod alone;
 mod fonts;
 mod links;

@@ -1,4 +1,6 @@
 // What the commands share: their options, the files that they read, what they print, and how they tell of a failure.
+#![tactic(auto)]
+
 mod failure;
 mod files;
 mod options;

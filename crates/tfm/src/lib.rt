@@ -1,4 +1,6 @@
 // The TFM shelf: faces made from TFM files, which have the widths of real fonts.
+#![tactic(auto)]
+
 mod entries;
 mod faces;
 mod files;

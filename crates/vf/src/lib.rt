@@ -1,4 +1,6 @@
 // A VF file read front to back into fixed tables: its local fonts by number, its packets by code.
+#![tactic(auto)]
+
 mod cases;
 mod entries;
 mod packets;

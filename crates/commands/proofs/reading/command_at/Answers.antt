@@ -8,6 +8,6 @@ returns-then-at-bytes c = record { is = none-past _ _ c.if-at-bytes.true; within
 pub returns : goal.returns
 returns c =
     record {
-      is = read-by_kind _ _ c.kind-of-kind.result _ c.if-at-bytes.false c.kind-of-kind.ensures.is c.command-of.ensures.is;
-      within = c.command-of.ensures.within;
+      is = read-by_kind _ _ c.kind_of-kind.result _ c.if-at-bytes.false c.kind_of-kind.ensures.is c.command_of.ensures.is;
+      within = c.command_of.ensures.within;
     }

@@ -5,13 +5,13 @@ use Rattle.document.proofs.fonts.font_from.Goals as goal
 pub loop-at-init : goal.loop-at-init
 loop-at-init c = sought_start _ _ _
 
-pub returns-then-is-font : goal.returns-then-is-font
-returns-then-is-font c =
-    found _ _ _ _ c.loop-at.invariant _ _ c.entry-at-e.ensures.is c.loop-at-test.true c.if-is-font.ensures (defined-by _ _ _ _ c.width-at.ensures c.definition-at.ensures.is)
+pub returns-then-is_font : goal.returns-then-is_font
+returns-then-is_font c =
+    found _ _ _ _ c.loop-at.invariant _ _ c.entry_at-e.ensures.is c.loop-at-test.true c.if-is_font.ensures (defined-by _ _ _ _ c.width_at.ensures c.definition_at.ensures.is)
 
 pub loop-at-preserved : goal.loop-at-preserved
 loop-at-preserved c =
-    sought_on _ _ _ _ c.loop-at.invariant _ c.entry-at-e.ensures.is c.loop-at-test.true c.entry-at-e.ensures.within.0 c.if-is-font.ensures
+    sought_on _ _ _ _ c.loop-at.invariant _ c.entry_at-e.ensures.is c.loop-at-test.true c.entry_at-e.ensures.within.0 c.if-is_font.ensures
 
 pub returns : goal.returns
 returns c = not_found _ _ _ _ c.loop-at.invariant c.loop-at-test.false

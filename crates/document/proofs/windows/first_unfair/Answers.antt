@@ -6,11 +6,11 @@ use Rattle.document.proofs.windows.first_unfair.Goals as goal
 pub loop-at-init : goal.loop-at-init
 loop-at-init c = fair-start _ _ _
 
-pub returns-then-is-unfair : goal.returns-then-is-unfair
-returns-then-is-unfair c = record { value = fair-not _ _ _ _ c.loop-at-test.true c.if-is-unfair.ensures c.loop-at.invariant; bound = search rules }
+pub returns-then-is_unfair : goal.returns-then-is_unfair
+returns-then-is_unfair c = record { value = fair-not _ _ _ _ c.loop-at-test.true c.if-is_unfair.ensures c.loop-at.invariant; bound = search rules }
 
 pub loop-at-preserved : goal.loop-at-preserved
-loop-at-preserved c = fair-on _ _ _ _ _ c.entry-at-at.ensures.is c.loop-at-test.true c.entry-at-at.ensures.within.0 c.if-is-unfair.ensures c.loop-at.invariant
+loop-at-preserved c = fair-on _ _ _ _ _ c.entry_at-at.ensures.is c.loop-at-test.true c.entry_at-at.ensures.within.0 c.if-is_unfair.ensures c.loop-at.invariant
 
 pub returns : goal.returns
 returns c = record { value = fair-all _ _ _ _ c.loop-at-test.false c.loop-at.invariant; bound = search rules }

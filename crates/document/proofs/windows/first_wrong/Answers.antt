@@ -5,7 +5,7 @@ use Rattle.document.proofs.windows.first_wrong.Goals as goal
 
 pub loop-lim-init : goal.loop-lim-init
 loop-lim-init c =
-    (search rules, search rules, search rules, window_clear _ _ _ _ _ _ c.least-lim.ensures.bound.0 c.first-unfair-stop.ensures.value c.least-lim.ensures.none)
+    (search rules, search rules, search rules, window_clear _ _ _ _ _ _ c.least-lim.ensures.bound.0 c.first_unfair-stop.ensures.value c.least-lim.ensures.none)
 
 pub loop-lim-preserved : goal.loop-lim-preserved
 loop-lim-preserved c =

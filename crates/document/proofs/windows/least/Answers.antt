@@ -8,7 +8,7 @@ loop-at-init c = (least_start _ _ _ _ _, search rules, search rules, search rule
 
 pub loop-at-preserved : goal.loop-at-preserved
 loop-at-preserved c =
-    (least_on _ _ _ _ _ _ _ _ c.entry-at-e.ensures.is c.loop-at-test.true c.entry-at-e.ensures.within.0 c.lower-best.ensures.bound.0 c.lower-best.ensures.none c.loop-at.invariant.0, search rules, search rules, search rules)
+    (least_on _ _ _ _ _ _ _ _ c.entry_at-e.ensures.is c.loop-at-test.true c.entry_at-e.ensures.within.0 c.lower-best.ensures.bound.0 c.lower-best.ensures.none c.loop-at.invariant.0, search rules, search rules, search rules)
 
 pub returns : goal.returns
 returns c = record { none = least-all _ _ _ _ _ _ c.loop-at-test.false c.loop-at.invariant.0; bound = search rules }

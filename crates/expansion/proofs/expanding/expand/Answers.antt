@@ -4,11 +4,11 @@ use Rattle.shelf.specs.Answers.{Answered}
 use Rattle.expansion.proofs.Packets.{no-packet, no_width, run-well, run-refused}
 use Rattle.expansion.proofs.expanding.expand.Goals as goal
 
-pub returns-in-default : goal.returns-in-default
-returns-in-default g c = no-packet _ _ _ _ _ _ c.in-default.ensures
+pub returns-in_default : goal.returns-in_default
+returns-in_default g c = no-packet _ _ _ _ _ _ c.in_default.ensures
 
-pub returns-in-default-scale : goal.returns-in-default-scale
-returns-in-default-scale g c = no_width _ _ _ _ _ c.in-Some.ensures _ _ c.in-default-scale.ensures.value
+pub returns-in_default-scale : goal.returns-in_default-scale
+returns-in_default-scale g c = no_width _ _ _ _ _ c.in-Some.ensures _ _ c.in_default-scale.ensures.value
 
 pub returns-in-Ok : goal.returns-in-Ok
 returns-in-Ok g c =

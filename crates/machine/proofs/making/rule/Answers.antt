@@ -8,7 +8,7 @@ use Rattle.machine.proofs.making.rule.Goals as goal
 pub returns-in-Mark : goal.returns-in-Mark
 returns-in-Mark c =
     let f : SFits w64 c.in-Mark.width = search rules in
-    λ chain. subst (λ o. Answered o chain chain c.args.marks.now c.put-mark.new.marks c.put-mark.result) c.in-Mark.ensures (simp to_z-of_z at (c.put-mark.ensures chain))
+    λ chain. subst (λ o. Answered o chain chain c.args.marks.now c.put_mark.new.marks c.put_mark.result) c.in-Mark.ensures (simp to_z-of_z at (c.put_mark.ensures chain))
 
 pub returns-in-Blank : goal.returns-in-Blank
 returns-in-Blank c =

@@ -5,8 +5,8 @@ use Rattle.shelf.specs.Served.{by-fault}
 use Rattle.machine.specs.Steps.{typeset, coded}
 use Rattle.machine.proofs.making.typeset.Goals as goal
 
-pub returns-in-default : goal.returns-in-default
-returns-in-default g c = by-fault _ _ _ NoFont (ap (λ f. typeset (g.S.Shelf.means c.args.below.now) f c.args.code c.args.at) c.in-default.is)
+pub returns-in_default : goal.returns-in_default
+returns-in_default g c = by-fault _ _ _ NoFont (ap (λ f. typeset (g.S.Shelf.means c.args.below.now) f c.args.code c.args.at) c.in_default.is)
 
 pub returns-in-None : goal.returns-in-None
 returns-in-None g c =

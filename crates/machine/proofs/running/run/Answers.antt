@@ -8,8 +8,8 @@ use Rattle.machine.proofs.Turning.{at-link}
 use Rattle.machine.proofs.Looping.{put_rest, makes-room, fails-at-end, ends-well, fails_there, is-done, goes_on}
 use Rattle.machine.proofs.running.run.Goals as goal
 
-pub overflow-add-used : goal.overflow-add-used
-overflow-add-used g c =
+pub overflow_add-used : goal.overflow_add-used
+overflow_add-used g c =
     let room : c.loop-at.used + c.in-Ok.t.marks ≤ length c.loop-at.marks =
     makes-room _ _ _ _ _ _ _ _ _ _ c.loop-at.invariant _ _ _ _ (simp take_rest at c.in-Ok.ensures.is) in
     search rules
@@ -29,10 +29,10 @@ returns-in-Err g c =
 
 pub returns-in-Ok-finish : goal.returns-in-Ok-finish
 returns-in-Ok-finish g c =
-    let e = c.in-Ok-finish.ensures ∙ ap (λ b. cond b (fault PastEnd []) (at_end (view_of c.loop-at.m) tt)) c.is-page.ensures in
+    let e = c.in-Ok-finish.ensures ∙ ap (λ b. cond b (fault PastEnd []) (at_end (view_of c.loop-at.m) tt)) c.is_page.ensures in
     ends-well _ _ _ _ _ _ _ _ _ _ c.loop-at.invariant c.loop-at-test.false e
 
 pub returns-in-Err-finish : goal.returns-in-Err-finish
 returns-in-Err-finish g c =
-    let e = c.in-Err-finish.ensures ∙ ap (λ b. cond b (fault PastEnd []) (at_end (view_of c.loop-at.m) tt)) c.is-page.ensures in
-    fails-at-end _ _ _ _ _ _ _ _ _ _ c.loop-at.invariant c.in-Err-finish.cause _ _ c.loop-at-test.false e (at-link _ _ _ _ _ _ c.link.ensures c.pass-on.ensures.fault c.pass-on.ensures.full)
+    let e = c.in-Err-finish.ensures ∙ ap (λ b. cond b (fault PastEnd []) (at_end (view_of c.loop-at.m) tt)) c.is_page.ensures in
+    fails-at-end _ _ _ _ _ _ _ _ _ _ c.loop-at.invariant c.in-Err-finish.cause _ _ c.loop-at-test.false e (at-link _ _ _ _ _ _ c.link.ensures c.pass_on.ensures.fault c.pass_on.ensures.full)

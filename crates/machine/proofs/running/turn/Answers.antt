@@ -2,10 +2,10 @@ use Rattle.std.proofs.Common.{sym}
 use Rattle.machine.proofs.Turning.{at-link, cut_off, refused-here, carried_out}
 use Rattle.machine.proofs.running.turn.Goals as goal
 
-pub returns-in-default : goal.returns-in-default
-returns-in-default g c =
-    let p = at-link _ _ _ _ _ _ c.link.ensures c.pass-on.ensures.fault c.pass-on.ensures.full in
-    record { is = cut_off _ _ _ _ _ _ _ c.args.marks.now _ (sym c.in-default.ensures.is) p; within = tt }
+pub returns-in_default : goal.returns-in_default
+returns-in_default g c =
+    let p = at-link _ _ _ _ _ _ c.link.ensures c.pass_on.ensures.fault c.pass_on.ensures.full in
+    record { is = cut_off _ _ _ _ _ _ _ c.args.marks.now _ (sym c.in_default.ensures.is) p; within = tt }
 
 pub returns-in-Ok : goal.returns-in-Ok
 returns-in-Ok g c =
@@ -16,5 +16,5 @@ returns-in-Ok g c =
 
 pub returns-in-Err : goal.returns-in-Err
 returns-in-Err g c =
-    let p = at-link _ _ _ _ _ _ c.link-in-Err.ensures c.pass-on-in-Err.ensures.fault c.pass-on-in-Err.ensures.full in
+    let p = at-link _ _ _ _ _ _ c.link-in-Err.ensures c.pass_on-in-Err.ensures.fault c.pass_on-in-Err.ensures.full in
     record { is = refused-here _ _ _ _ _ _ _ _ _ _ (sym c.in-Some.ensures.is) _ _ _ c.in-Err.ensures p; within = tt }

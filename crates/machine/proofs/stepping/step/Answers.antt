@@ -29,10 +29,10 @@ returns-in-PutRule g c =
 
 pub returns-in-Ok : goal.returns-in-Ok
 returns-in-Ok g c =
-    let r = c.in-default in
+    let r = c.in_default in
     silent-step _ _ _ _ _ _ (is-silent _ c.args.command _ r.not-Set r.not-Put r.not-SetRule r.not-PutRule) c.in-Ok.ensures
 
 pub returns-in-Err : goal.returns-in-Err
 returns-in-Err g c =
-    let r = c.in-default in
+    let r = c.in_default in
     silent-step _ _ _ _ _ _ (is-silent _ c.args.command _ r.not-Set r.not-Put r.not-SetRule r.not-PutRule) c.in-Err.ensures

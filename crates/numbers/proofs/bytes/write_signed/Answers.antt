@@ -10,11 +10,11 @@ returns c =
     let p = c.args.place in
     let w = c.args.width in
     let z = c.args.z in
-    let n = c.in-ok-n.n in
+    let n = c.in_ok-n.n in
     let f = c.ranges.z in
-    let q : Some n ≡ complement_at w z = simp to_z-of_z at c.in-ok-n.ensures in
+    let q : Some n ≡ complement_at w z = simp to_z-of_z at c.in_ok-n.ensures in
     record {
-      after = c.write-unsigned.ensures.after ∙ signed_goes_to w z n q s p;
-      bytes = c.write-unsigned.ensures.bytes ∙ signed-leaves w z n q s p;
-      again = signed_reads_back w z n q c.write-unsigned.result c.write-unsigned.new.bytes p c.write-unsigned.ensures.again;
+      after = c.write_unsigned.ensures.after ∙ signed_goes_to w z n q s p;
+      bytes = c.write_unsigned.ensures.bytes ∙ signed-leaves w z n q s p;
+      again = signed_reads_back w z n q c.write_unsigned.result c.write_unsigned.new.bytes p c.write_unsigned.ensures.again;
     }

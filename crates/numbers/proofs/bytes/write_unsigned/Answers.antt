@@ -13,14 +13,14 @@ returns c =
     let p = c.args.place in
     let w = c.args.width in
     let n = c.args.n in
-    let b = c.to-be-bytes.result in
+    let b = c.to_be_bytes.result in
     let room : p + w ≤ length s = omega arith in
     let fit : fitting w n ≡ true = sym c.if-not-fits.ensures in
-    let four : length b ≡ 4 = rw c.to-be-bytes.ensures in
-    let low : drop (4 - w) b ≡ digits w n = rw c.to-be-bytes.ensures (low_bytes w n (search rules)) in
-    let same : c.copy-from-slice.new.self ≡ digits w n = c.copy-from-slice.ensures.after ∙ (between_to_end b (4 - w) _ (search rules) ∙ low) in
-    let pasted : put_mid p (p + w - p) s c.copy-from-slice.new.self ≡ paste s p (digits w n) w =
-    put_mid-paste p _ s c.copy-from-slice.new.self (digits w n) w same (omega arith) (rw length_digits) in
+    let four : length b ≡ 4 = rw c.to_be_bytes.ensures in
+    let low : drop (4 - w) b ≡ digits w n = rw c.to_be_bytes.ensures (low_bytes w n (search rules)) in
+    let same : c.copy_from_slice.new.self ≡ digits w n = c.copy_from_slice.ensures.after ∙ (between_to_end b (4 - w) _ (search rules) ∙ low) in
+    let pasted : put_mid p (p + w - p) s c.copy_from_slice.new.self ≡ paste s p (digits w n) w =
+    put_mid-paste p _ s c.copy_from_slice.new.self (digits w n) w same (omega arith) (rw length_digits) in
     record {
       after = goes_to s p w n room fit;
       bytes = pasted ∙ leaves s p w n room fit;

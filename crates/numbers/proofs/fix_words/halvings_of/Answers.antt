@@ -1,4 +1,4 @@
-use Rattle.std.proofs.Common.{refl, inl, inr, arith, rules}
+use Rattle.std.proofs.Common.{refl, inl, inr, arith}
 use Rattle.numbers.proofs.Scales.{halvings_are}
 use Rattle.numbers.proofs.fix_words.halvings_of.Goals as goal
 

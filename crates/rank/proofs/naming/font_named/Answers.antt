@@ -5,6 +5,6 @@ use Rattle.rank.proofs.naming.font_named.Goals as goal
 pub returns : goal.returns
 returns c =
     record {
-      first = c.first-match.ensures.first ∙ found-font c.args.fonts.now c.args.name.now;
-      within = c.first-match.ensures.within;
+      first = c.first_match.ensures.first ∙ found-font c.args.fonts.now c.args.name.now;
+      within = c.first_match.ensures.within;
     }

@@ -5,6 +5,6 @@ use Rattle.tfm.proofs.naming.face_named.Goals as goal
 pub returns : goal.returns
 returns c =
     record {
-      first = c.first-match.ensures.first ∙ found-face c.args.faces.now c.args.name.now;
-      within = c.first-match.ensures.within;
+      first = c.first_match.ensures.first ∙ found-face c.args.faces.now c.args.name.now;
+      within = c.first_match.ensures.within;
     }

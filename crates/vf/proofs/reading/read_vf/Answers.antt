@@ -3,13 +3,13 @@ use Rattle.std.proofs.Common.{rules}
 use Rattle.vf.specs.Files.{vf_of}
 use Rattle.vf.proofs.reading.read_vf.Goals as goal
 
-pub returns-in-default : goal.returns-in-default
+pub returns-in_default : goal.returns-in_default
 unfolding vf_of
-returns-in-default g c = search rules
+returns-in_default g c = search rules
 
-pub returns-in-err-items : goal.returns-in-err-items
+pub returns-in_err-items : goal.returns-in_err-items
 unfolding vf_of
-returns-in-err-items g c = search rules
+returns-in_err-items g c = search rules
 
 pub returns : goal.returns
 unfolding vf_of

@@ -4,8 +4,8 @@ use Rattle.machine.specs.Frames.{frames_of}
 use Rattle.machine.proofs.Saved.{depth_is, one_more}
 use Rattle.machine.proofs.frames.Frames.push.Goals as goal
 
-pub returns-then-self-ge-MAX-FRAMES : goal.returns-then-self-ge-MAX-FRAMES
-returns-then-self-ge-MAX-FRAMES c =
+pub returns-then-self-ge-MAX_FRAMES : goal.returns-then-self-ge-MAX_FRAMES
+returns-then-self-ge-MAX_FRAMES c =
     let fs = frames_of c.args.self.now in
     let n = depth_is c.args.self.now.saved c.args.self.now.depth (omega arith) in
     sym (cond-false _ _ _ (le-ltb (length fs) 64 (omega (arith, n))))

@@ -6,25 +6,25 @@ use Rattle.rank.specs.Ranks.{rank_of, RankOk}
 use Rattle.rank.proofs.Adds.{no_room, no_name, not-read, one_more, rank_push}
 use Rattle.rank.proofs.ranks.Rank.add.Goals as goal
 
-pub returns-then-no-room : goal.returns-then-no-room
-returns-then-no-room g c =
+pub returns-then-no_room : goal.returns-then-no_room
+returns-then-no_room g c =
     let r = c.args.self.now in
     let m = g.S.Shelf.means r.below in
-    let e = no_room m (vec_items r.bytes) (vec_items r.fonts) c.args.name.now c.args.file.now r.laid r.whole _ c.len.result c.len-2.result c.count.result.fonts (length c.args.file.now) (search rules) (search rules) c.count.ensures.fonts refl c.no-room.ensures.is c.if-no-room.true in
+    let e = no_room m (vec_items r.bytes) (vec_items r.fonts) c.args.name.now c.args.file.now r.laid r.whole _ c.len.result c.len-2.result c.count.result.fonts (length c.args.file.now) (search rules) (search rules) c.count.ensures.fonts refl c.no_room.ensures.is c.if-no_room.true in
     record { is = e; below = refl; sound = λ u. u; same = refl }
 
-pub returns-in-default : goal.returns-in-default
-returns-in-default g c =
+pub returns-in_default : goal.returns-in_default
+returns-in_default g c =
     let r = c.args.self.now in
     let m = g.S.Shelf.means r.below in
-    let e = no_name m (vec_items r.bytes) (vec_items r.fonts) c.args.name.now c.args.file.now r.laid r.whole _ c.len.result c.len-2.result c.count.result.fonts (length c.args.file.now) (search rules) (search rules) c.count.ensures.fonts refl c.no-room.ensures.is c.if-no-room.false c.in-default.ensures.is in
+    let e = no_name m (vec_items r.bytes) (vec_items r.fonts) c.args.name.now c.args.file.now r.laid r.whole _ c.len.result c.len-2.result c.count.result.fonts (length c.args.file.now) (search rules) (search rules) c.count.ensures.fonts refl c.no_room.ensures.is c.if-no_room.false c.in_default.ensures.is in
     record { is = e; below = refl; sound = λ u. u; same = refl }
 
 pub returns-in-Err : goal.returns-in-Err
 returns-in-Err g c =
     let r = c.args.self.now in
     let m = g.S.Shelf.means r.below in
-    let e = not-read m (vec_items r.bytes) (vec_items r.fonts) c.args.name.now c.args.file.now r.laid r.whole _ c.len.result c.len-2.result c.count.result.fonts (length c.args.file.now) (search rules) (search rules) c.count.ensures.fonts refl c.no-room.ensures.is c.if-no-room.false _ c.in-Some.ensures.is c.in-Err.e c.in-Err.ensures in
+    let e = not-read m (vec_items r.bytes) (vec_items r.fonts) c.args.name.now c.args.file.now r.laid r.whole _ c.len.result c.len-2.result c.count.result.fonts (length c.args.file.now) (search rules) (search rules) c.count.ensures.fonts refl c.no_room.ensures.is c.if-no_room.false _ c.in-Some.ensures.is c.in-Err.e c.in-Err.ensures in
     record { is = e; below = refl; sound = λ u. u; same = refl }
 
 pub returns-in-Ok : goal.returns-in-Ok
@@ -33,7 +33,7 @@ returns-in-Ok g c =
     let m = g.S.Shelf.means r.below in
     let bs = vec_items r.bytes in
     let fs = vec_items r.fonts in
-    let e = one_more m bs fs c.args.name.now c.args.file.now r.laid r.whole _ c.len.result c.len-2.result c.count.result.fonts (length c.args.file.now) (search rules) (search rules) c.count.ensures.fonts refl c.no-room.ensures.is c.if-no-room.false _ c.in-Some.ensures.is _ _ c.in-Ok.ensures c.keep.ensures.is in
+    let e = one_more m bs fs c.args.name.now c.args.file.now r.laid r.whole _ c.len.result c.len-2.result c.count.result.fonts (length c.args.file.now) (search rules) (search rules) c.count.ensures.fonts refl c.no_room.ensures.is c.if-no_room.false _ c.in-Some.ensures.is _ _ c.in-Ok.ensures c.keep.ensures.is in
     let few : length (rank_of m (entries_of bs fs)).names < 4096 = search rules in
     let now = entries_of (vec_items c.keep.new.self.bytes) (vec_items c.keep.new.self.fonts) in
     record {

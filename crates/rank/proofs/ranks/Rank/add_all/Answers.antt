@@ -12,10 +12,10 @@ pub loop-k-preserved : goal.loop-k-preserved
 loop-k-preserved g c =
     let i = c.loop-k.invariant in
     let r = c.loop-k.self in
-    let o = given_by c.offer-at-offer.result in
+    let o = given_by c.offer_at-offer.result in
     let e = c.add.ensures.is ∙ ap (λ b. added (g.S.Shelf.means b) (entries_of (vec_items r.bytes) (vec_items r.fonts)) o.name o.file) i.1 in
     let l : c.loop-k.k < length (map given_by c.args.offers.now) = omega (arith, length-map c.args.offers.now given_by, c.loop-k-test.true) in
-    (one_filed _ _ _ _ _ _ c.loop-k.answers c.loop-k.k o _ i.0 l c.if-k-answers.true c.offer-at-offer.ensures e, c.add.ensures.below ∙ i.1, λ u. c.add.ensures.sound (i.2 u))
+    (one_filed _ _ _ _ _ _ c.loop-k.answers c.loop-k.k o _ i.0 l c.if-k-answers.true c.offer_at-offer.ensures e, c.add.ensures.below ∙ i.1, λ u. c.add.ensures.sound (i.2 u))
 
 pub returns-else-k-answers : goal.returns-else-k-answers
 returns-else-k-answers g c =

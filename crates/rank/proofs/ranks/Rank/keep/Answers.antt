@@ -2,13 +2,13 @@ use Rattle.std.proofs.Common.{◌≡◌, ◌++◌, length, vec_items, refl, rule
 use Rattle.rank.proofs.Stored.{stored, still_whole, still_laid}
 use Rattle.rank.proofs.ranks.Rank.keep.Goals as goal
 
-pub invariant-of-self-2 : goal.invariant-of-self-2
-invariant-of-self-2 g c =
+pub invariant_of-self-2 : goal.invariant_of-self-2
+invariant_of-self-2 g c =
     let bs = vec_items c.args.self.now.bytes in
     let fs = vec_items c.args.self.now.fonts in
-    let items : vec_items c.extend-from-slice.new.self ≡ bs ++ c.args.file.now = search rules in
+    let items : vec_items c.extend_from_slice.new.self ≡ bs ++ c.args.file.now = search rules in
     let start : c.len-start.result ≡ length bs = search rules in
-    let fonts = c.push-reserved.ensures.items in (
+    let fonts = c.push_reserved.ensures.items in (
       search rules,
       (
         search rules,
@@ -23,6 +23,6 @@ pub returns : goal.returns
 returns g c =
     let bs = vec_items c.args.self.now.bytes in
     let fs = vec_items c.args.self.now.fonts in
-    let items : vec_items c.extend-from-slice.new.self ≡ bs ++ c.args.file.now = search rules in
+    let items : vec_items c.extend_from_slice.new.self ≡ bs ++ c.args.file.now = search rules in
     let start : c.len-start.result ≡ length bs = search rules in
-    record { is = stored bs fs _ c.args.file.now _ _ items c.push-reserved.ensures.items start refl c.args.self.now.laid; below = refl }
+    record { is = stored bs fs _ c.args.file.now _ _ items c.push_reserved.ensures.items start refl c.args.self.now.laid; below = refl }

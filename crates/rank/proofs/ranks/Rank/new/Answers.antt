@@ -7,6 +7,6 @@ use Rattle.rank.proofs.ranks.Rank.new.Goals as goal
 pub returns : goal.returns
 returns g c =
     let m = g.S.Shelf.means c.args.below in
-    let bytes = c.in-ok-bytes.ensures.items in
-    let fonts = c.in-ok-fonts.ensures.items in
-    (refl, bytes, fonts, λ u. subst (λ fs. RankOk m (entries_of (vec_items c.in-ok-bytes.bytes) fs)) (sym fonts) (rank_none m (g.met.S.Shelf.lawful c.args.below).few (g.met.S.Shelf.distinct c.args.below u)))
+    let bytes = c.in_ok-bytes.ensures.items in
+    let fonts = c.in_ok-fonts.ensures.items in
+    (refl, bytes, fonts, λ u. subst (λ fs. RankOk m (entries_of (vec_items c.in_ok-bytes.bytes) fs)) (sym fonts) (rank_none m (g.met.S.Shelf.lawful c.args.below).few (g.met.S.Shelf.distinct c.args.below u)))

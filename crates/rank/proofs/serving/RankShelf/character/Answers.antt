@@ -48,9 +48,9 @@ returns g c =
     let e : slice_get (fitting m (entries_of bs fs)) (c.args.font - c.count-base.result.fonts) ≡ Some (entry_of bs f) =
     ap (λ xs. slice_get xs (c.args.font - c.count-base.result.fonts)) (fits m bs fs ∙ ap (map (entry_of bs)) (sym c.own-fonts.ensures.fonts)) ∙ nth_map (entry_of bs) own (c.args.font - c.count-base.result.fonts) f i at in
     let e₁ = ap (λ b. slice_get (fitting m (entries_of bs fs)) (c.args.font - b)) (sym c.count-base.ensures.fonts) ∙ e in
-    let file = c.part-file.ensures ∙ ap (λ b. take f.length (drop f.start b)) c.as-slice.ensures.value in
+    let file = c.part-file.ensures ∙ ap (λ b. take f.length (drop f.start b)) c.as_slice.ensures.value in
     let all = c.count-base.result.fonts + length own in
-    let s = c.in-default.ensures ∙ ap (λ x. started all c.args.font c.args.size x (to_z w64 (of_z w64 c.args.v))) (to_z-of_z w64 c.args.h fh) ∙ ap (started all c.args.font c.args.size c.args.h) (to_z-of_z w64 c.args.v fv) in
+    let s = c.in_default.ensures ∙ ap (λ x. started all c.args.font c.args.size x (to_z w64 (of_z w64 c.args.v))) (to_z-of_z w64 c.args.h fh) ∙ ap (started all c.args.font c.args.size c.args.h) (to_z-of_z w64 c.args.v fv) in
     let o = called_above m (fitting m (entries_of bs fs)) c.args.font c.args.size c.args.code c.args.h c.args.v (entry_of bs f) all _ n s l e₁ in
     let a = simp to_z-of_z at c.expand.ensures in
     subst (λ x. Answered x c.args.chain.now c.expand.new.chain c.args.marks.now c.expand.new.marks c.expand.result) (ap (λ b. expanded m (font_of f.vf) b (record { font = c.args.font; size = c.args.size; code = c.args.code; h = c.args.h; v = c.args.v })) file ∙ sym o) a

@@ -11,13 +11,13 @@ returns-in-Some g c =
     let own = map entry_name (fitting m (entries_of (vec_items c.args.self.now.bytes) (vec_items c.args.self.now.fonts))) in
     ap (λ o. joined o (length m.names) (found_in own c.args.name.now)) c.in-Some.ensures ∙ sym (found-append m.names own c.args.name.now)
 
-pub returns-in-Some-font-named : goal.returns-in-Some-font-named
-returns-in-Some-font-named g c =
+pub returns-in-Some-font_named : goal.returns-in-Some-font_named
+returns-in-Some-font_named g c =
     let m = g.S.Shelf.means c.args.self.now.below in
-    ap (λ n. Some (n + c.in-Some-font-named.k)) c.count-base.ensures.fonts
-    ∙ found_here m (vec_items c.args.self.now.bytes) (vec_items c.args.self.now.fonts) _ c.own.ensures.fonts c.args.name.now None (Some c.in-Some-font-named.k) c.in-default.ensures c.in-Some-font-named.ensures.first
+    ap (λ n. Some (n + c.in-Some-font_named.k)) c.count-base.ensures.fonts
+    ∙ found_here m (vec_items c.args.self.now.bytes) (vec_items c.args.self.now.fonts) _ c.own.ensures.fonts c.args.name.now None (Some c.in-Some-font_named.k) c.in_default.ensures c.in-Some-font_named.ensures.first
 
 pub returns-in-None : goal.returns-in-None
 returns-in-None g c =
     let m = g.S.Shelf.means c.args.self.now.below in
-    found_here m (vec_items c.args.self.now.bytes) (vec_items c.args.self.now.fonts) _ c.own.ensures.fonts c.args.name.now None None c.in-default.ensures c.in-None.ensures.first
+    found_here m (vec_items c.args.self.now.bytes) (vec_items c.args.self.now.fonts) _ c.own.ensures.fonts c.args.name.now None None c.in_default.ensures c.in-None.ensures.first

@@ -18,21 +18,21 @@ returns-in-Err g c =
     by-fault _ _ _ c.in-Err.cause (called-fault (faces_alone m) c.args.font c.args.size c.args.code c.args.h c.args.v _ s)
 
 -- a face is there for each font
-pub returns-in-default-face : goal.returns-in-default-face
-returns-in-default-face g c =
+pub returns-in_default-face : goal.returns-in_default-face
+returns-in_default-face g c =
     let m = g.S.Shelf.means c.args.self.now.0 in
     let fh = c.ranges.h in
     let fv = c.ranges.v in
-    let s = started-alone m _ c.args.font c.args.size c.args.h c.args.v _ c.count.ensures.faces (simp to_z-of_z at c.in-default.ensures) in
-    absurd (never-none m.faces c.args.font (passed _ c.args.font c.args.size c.args.h c.args.v _ s).within c.in-default-face.ensures)
+    let s = started-alone m _ c.args.font c.args.size c.args.h c.args.v _ c.count.ensures.faces (simp to_z-of_z at c.in_default.ensures) in
+    absurd (never-none m.faces c.args.font (passed _ c.args.font c.args.size c.args.h c.args.v _ s).within c.in_default-face.ensures)
 
 -- and bears a name that is found
-pub returns-in-default-find : goal.returns-in-default-find
-returns-in-default-find g c =
+pub returns-in_default-find : goal.returns-in_default-find
+returns-in_default-find g c =
     let m = g.S.Shelf.means c.args.self.now.0 in
     let t = face-told m.faces c.args.font (facts_in c.in-Some.f) c.in-Some.ensures in
     let w = (g.met.S.Shelf.lawful c.args.self.now.0).good-faces c.args.font t.0 t.1 in
-    let q : ◌≡◌ {A = Option ℕ} None (Some w.font) = c.in-default-find.ensures ∙ ap (λ f. found_in m.names f.name) t.2 ∙ w.font-is in
+    let q : ◌≡◌ {A = Option ℕ} None (Some w.font) = c.in_default-find.ensures ∙ ap (λ f. found_in m.names f.name) t.2 ∙ w.font-is in
     let z : ◌≡◌ {A = ℕ} 0 1 = cc in
     absurd (omega arith)
 
@@ -41,7 +41,7 @@ returns g c =
     let m = g.S.Shelf.means c.args.self.now.0 in
     let fh = c.ranges.h in
     let fv = c.ranges.v in
-    let s = started-alone m _ c.args.font c.args.size c.args.h c.args.v _ c.count.ensures.faces (simp to_z-of_z at c.in-default.ensures) in
+    let s = started-alone m _ c.args.font c.args.size c.args.h c.args.v _ c.count.ensures.faces (simp to_z-of_z at c.in_default.ensures) in
     let t = face-told m.faces c.args.font (facts_in c.in-Some.f) c.in-Some.ensures in
     let first : found_in m.names t.0.facts.name ≡ Some c.in-Some-find.k = ap (λ f. found_in m.names f.name) (sym t.2) ∙ sym c.in-Some-find.ensures in
     let a = simp to_z-of_z at c.character.ensures in

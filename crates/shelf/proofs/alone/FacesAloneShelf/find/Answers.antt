@@ -9,7 +9,7 @@ use Rattle.shelf.specs.Telling.{facts_in}
 use Rattle.shelf.specs.FaceLaws.{face-told, named, never-none}
 use Rattle.shelf.specs.Finding.{tested}
 use Rattle.shelf.proofs.alone.FacesAloneShelf.find.Goals as goal
-use Rattle.shelf.proofs.alone.FacesAloneShelf.find.Goals.{in-Some+else-eq, in-default}
+use Rattle.shelf.proofs.alone.FacesAloneShelf.find.Goals.{in-Some+else-eq, in_default}
 use Rattle.std.proofs.lemmas.Bool.Decides.{Decides-eqb}
 
 pub returns-then-eq : goal.returns-then-eq
@@ -33,7 +33,7 @@ loop-k-preserved g c =
           let n = named fs c.loop-k.k t.0 name t.1 in
           let d = tested name c.args.name.now w.eq.result (slice_eq-Decides Decides-eqb _ _ _ w.eq.ensures) in
           passed (λ x. bytes_eq x c.args.name.now) (map name_of fs) c.loop-k.k name n.0 (ap (λ f. f.name) t.2 ∙ sym n.1) c.loop-k.invariant (sym d ∙ w.if-eq.false)
-      | in-default w ↦ absurd (never-none fs c.loop-k.k l w.in-default.ensures)
+      | in_default w ↦ absurd (never-none fs c.loop-k.k l w.in_default.ensures)
     ]
 
 pub returns : goal.returns

@@ -18,16 +18,16 @@ pub returns-in-None : goal.returns-in-None
 returns-in-None c =
     let fh = c.ranges.h in
     let fv = c.ranges.v in
-    let w = c.in-None.ensures.value ∙ ap (λ b. width_of b (outline_of c.index.result.now) c.args.size c.args.code) c.as-slice.ensures.value in
+    let w = c.in-None.ensures.value ∙ ap (λ b. width_of b (outline_of c.index.result.now) c.args.size c.args.code) c.as_slice.ensures.value in
     by-fault _ _ _ NoCode (called-face _ (vec_items c.args.self.now.faces) c.len.result c.args.font c.args.size c.args.code c.args.h c.args.v _ c.index.result.now _ (search rules) (simp to_z-of_z at c.in-Ok.ensures) (search rules) c.index.ensures w)
 
 pub returns-in-Some : goal.returns-in-Some
 returns-in-Some c =
     let fh = c.ranges.h in
     let fv = c.ranges.v in
-    let w = c.in-Some.ensures.value ∙ ap (λ b. width_of b (outline_of c.index.result.now) c.args.size c.args.code) c.as-slice.ensures.value in
+    let w = c.in-Some.ensures.value ∙ ap (λ b. width_of b (outline_of c.index.result.now) c.args.size c.args.code) c.as_slice.ensures.value in
     let o = called-face _ (vec_items c.args.self.now.faces) c.len.result c.args.font c.args.size c.args.code c.args.h c.args.v _ c.index.result.now _ (search rules) (simp to_z-of_z at c.in-Ok.ensures) (search rules) c.index.ensures w in
     let f0 : SFits w32 c.in-Ok.point.0 = search rules in
     let f1 : SFits w32 c.in-Ok.point.1 = search rules in
     let fw : SFits w64 c.in-Some.w = search rules in
-    subst (λ x. Answered x c.args.chain.now c.args.chain.now c.args.marks.now c.put-mark.new.marks c.put-mark.result) (sym o) (simp to_z-of_z at (c.put-mark.ensures c.args.chain.now))
+    subst (λ x. Answered x c.args.chain.now c.args.chain.now c.args.marks.now c.put_mark.new.marks c.put_mark.result) (sym o) (simp to_z-of_z at (c.put_mark.ensures c.args.chain.now))

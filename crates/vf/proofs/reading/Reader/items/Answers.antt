@@ -5,20 +5,20 @@ use Rattle.vf.specs.Files.{reading_of, ended}
 use Rattle.vf.proofs.Walks.{turn, broke, done, unfinished}
 use Rattle.vf.proofs.reading.Reader.items.Goals as goal
 
-pub returns-in-err-at : goal.returns-in-err-at
-returns-in-err-at g c =
+pub returns-in_err-at : goal.returns-in_err-at
+returns-in_err-at g c =
     let p = err_from_is_err_and c.from-residual.result c.from-residual.ensures.1 in
-    rw (p.1, p.2) (sym (c.loop-at.invariant.1 ∙ broke _ _ _ (reading_of c.loop-at.self) (reading_of c.item.new.self) _ c.in-err-at.ensures.is c.loop-at-test.true))
+    rw (p.1, p.2) (sym (c.loop-at.invariant.1 ∙ broke _ _ _ (reading_of c.loop-at.self) (reading_of c.item.new.self) _ c.in_err-at.ensures.is c.loop-at-test.true))
 
 pub loop-at-preserved : goal.loop-at-preserved
 loop-at-preserved g c =
-    let on = c.in-ok-at.ensures.on in
-    (on.1, c.loop-at.invariant.1 ∙ turn _ _ _ _ (reading_of c.loop-at.self) (reading_of c.item.new.self) c.in-ok-at.ensures.is on.0 on.1)
+    let on = c.in_ok-at.ensures.on in
+    (on.1, c.loop-at.invariant.1 ∙ turn _ _ _ _ (reading_of c.loop-at.self) (reading_of c.item.new.self) c.in_ok-at.ensures.is on.0 on.1)
 
 pub returns-in-Ending : goal.returns-in-Ending
 returns-in-Ending g c =
     sym (c.loop-at.invariant.1 ∙ done _ _ _ _ c.loop-at-test.false ∙ ap (ended c.loop-at.at (reading_of c.loop-at.self)) c.in-Ending.is)
 
-pub returns-in-default : goal.returns-in-default
-returns-in-default g c =
-    sym (c.loop-at.invariant.1 ∙ done _ _ _ _ c.loop-at-test.false ∙ unfinished _ (reading_of c.loop-at.self) _ c.in-default.not-Ending)
+pub returns-in_default : goal.returns-in_default
+returns-in_default g c =
+    sym (c.loop-at.invariant.1 ∙ done _ _ _ _ c.loop-at-test.false ∙ unfinished _ (reading_of c.loop-at.self) _ c.in_default.not-Ending)
