@@ -31,7 +31,7 @@ pub fn expand<S: Shelf>(
     chain: &mut [Link],
     marks: &mut [Mark],
 ) -> Result<(usize, i64), Refusal>
-    ensures { Answered (expanded (means below.now) (font_of vf.now) file.now (record { font = asked.font; size = asked.size; code = asked.code; h = asked.h; v = asked.v })) chain.old chain.new marks.old marks.new result }
+    ensures { Answered (expanded (S.means below.now) (font_of vf.now) file.now (record { font = asked.font; size = asked.size; code = asked.code; h = asked.h; v = asked.v })) chain.old chain.new marks.old marks.new result }
 {
     let Some(packet) = vf.packet(asked.code) else {
         return Err(Refusal::Fault {
@@ -61,7 +61,7 @@ fn run_packet<S: Shelf>(
     chain: &mut [Link],
     marks: &mut [Mark],
 ) -> Result<usize, Refusal>
-    ensures { Answered (packet_run (means below.now) (font_of vf.now) file.now (record { font = asked.font; size = asked.size; code = asked.code; h = asked.h; v = asked.v }) packet) chain.old chain.new marks.old marks.new (counted result) }
+    ensures { Answered (packet_run (S.means below.now) (font_of vf.now) file.now (record { font = asked.font; size = asked.size; code = asked.code; h = asked.h; v = asked.v }) packet) chain.old chain.new marks.old marks.new (counted result) }
 {
     let body = PacketBody {
         vf,

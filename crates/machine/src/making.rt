@@ -17,7 +17,7 @@ pub(crate) fn typeset<S: Shelf>(
     chain: &mut [Link],
     marks: &mut [Mark],
 ) -> Result<(usize, i64), Refusal>
-    ensures { Answered (typeset_by (means below.now) font code at) chain.old chain.new marks.old marks.new result }
+    ensures { Answered (typeset_by (S.means below.now) font code at) chain.old chain.new marks.old marks.new result }
 {
     let Some(f) = font else {
         return Err(Refusal::Fault {

@@ -30,7 +30,7 @@ fn downward(r: Registers, b: i64) -> Result<Registers, Cause>
 
 // The registers after a move.
 pub(crate) fn shift<B: Body>(body: &B, command: Command, r: Registers) -> Result<Registers, Cause>
-    ensures { ending_of result ≡ shifted (measures body.now) (plain command.entry) r }
+    ensures { ending_of result ≡ shifted (B.measures body.now) (plain command.entry) r }
 {
     match command {
         Command::Right(b) => right(r, body.measure(b)),

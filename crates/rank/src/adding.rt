@@ -23,7 +23,7 @@ const MAX_FONTS: u16 = 4096;
 impl<S: Shelf + Drop> Rank<S> {
     // A rank with no file, and memory for all that it may be given.
     pub fn new(below: S, heap: Global) -> Result<Rank<S>, AllocError>
-        ensures { IfOk result (λ k. (k.below ≡ below) × (k.bytes.items ≡ []) × (k.fonts.items ≡ []) × (sound below → RankOk (means k.below) (entries_of k.bytes.items k.fonts.items))) }
+        ensures { IfOk result (λ k. (k.below ≡ below) × (k.bytes.items ≡ []) × (k.fonts.items ≡ []) × (S.sound below → RankOk (S.means k.below) (entries_of k.bytes.items k.fonts.items))) }
     {
         let bytes = Vec::with_capacity(heap, MAX_BYTES)?;
         let fonts = Vec::with_capacity(heap, MAX_FILES)?;
@@ -49,8 +49,8 @@ fn no_room(files: usize, bytes: usize, fonts: u16, more: usize) -> bool
 impl<S: Shelf> Rank<S> {
     // The name that a new font is given; none where it has not 1 to 63 bytes, or a font bears it already.
     fn new_name(&self, bytes: &[u8]) -> Option<Name>
-        ensures is { option_map spelled result ≡ (if free (rank_of (means self.now.below) (entries_of self.now.bytes.items self.now.fonts.items)).names bytes.now then Some bytes.now else None) }
-        ensures fresh { IfSome result (λ n. found_in (rank_of (means self.now.below) (entries_of self.now.bytes.items self.now.fonts.items)).names (spelled n) ≡ None) }
+        ensures is { option_map spelled result ≡ (if free (rank_of (S.means self.now.below) (entries_of self.now.bytes.items self.now.fonts.items)).names bytes.now then Some bytes.now else None) }
+        ensures fresh { IfSome result (λ n. found_in (rank_of (S.means self.now.below) (entries_of self.now.bytes.items self.now.fonts.items)).names (spelled n) ≡ None) }
     {
         let name = Name::new(bytes)?;
         match self.find(bytes) {
@@ -80,9 +80,9 @@ impl<S: Shelf> Rank<S> {
 
     // Adds a file under a name, or refuses it and leaves the rank as it was.
     pub fn add(&mut self, name: &[u8], file: &[u8]) -> Result<(), Refusal>
-        ensures is { (entries_of self.new.bytes.items self.new.fonts.items, result) ≡ added (means self.old.below) (entries_of self.old.bytes.items self.old.fonts.items) name.now file.now }
+        ensures is { (entries_of self.new.bytes.items self.new.fonts.items, result) ≡ added (S.means self.old.below) (entries_of self.old.bytes.items self.old.fonts.items) name.now file.now }
         ensures below { self.new.below ≡ self.old.below }
-        ensures sound { RankOk (means self.old.below) (entries_of self.old.bytes.items self.old.fonts.items) → RankOk (means self.new.below) (entries_of self.new.bytes.items self.new.fonts.items) }
+        ensures sound { RankOk (S.means self.old.below) (entries_of self.old.bytes.items self.old.fonts.items) → RankOk (S.means self.new.below) (entries_of self.new.bytes.items self.new.fonts.items) }
         ensures same { OnErr result (self.new ≡ self.old) }
     {
         if no_room(

@@ -25,10 +25,10 @@ impl<S: Shelf> Rank<S> {
     // Adds each file, whatever became of those before it, and puts the answer to each into the list of answers; as many
     // files as the shorter list has.
     pub fn add_all(&mut self, offers: &[Offer], answers: &mut [Result<(), Refusal>])
-        ensures files { (entries_of self.new.bytes.items self.new.fonts.items, take (min (length offers.now) (length answers.old)) answers.new) ≡ added_all (means self.old.below) (entries_of self.old.bytes.items self.old.fonts.items, []) (map given_by (take (min (length offers.now) (length answers.old)) offers.now)) }
+        ensures files { (entries_of self.new.bytes.items self.new.fonts.items, take (min (length offers.now) (length answers.old)) answers.new) ≡ added_all (S.means self.old.below) (entries_of self.old.bytes.items self.old.fonts.items, []) (map given_by (take (min (length offers.now) (length answers.old)) offers.now)) }
         ensures rest { drop (min (length offers.now) (length answers.old)) answers.new ≡ drop (min (length offers.now) (length answers.old)) answers.old }
         ensures below { self.new.below ≡ self.old.below }
-        ensures sound { RankOk (means self.old.below) (entries_of self.old.bytes.items self.old.fonts.items) → RankOk (means self.new.below) (entries_of self.new.bytes.items self.new.fonts.items) }
+        ensures sound { RankOk (S.means self.old.below) (entries_of self.old.bytes.items self.old.fonts.items) → RankOk (S.means self.new.below) (entries_of self.new.bytes.items self.new.fonts.items) }
     {
         let mut k = 0;
         while k < offers.len() && k < answers.len() {

@@ -18,8 +18,8 @@ use shelf::{Count, Face, Link, Mark, Refusal, Shelf, start};
 impl<S: Shelf> Rank<S> {
     // The fonts that find room above those below: all, in a rank that was made by its calls.
     fn own(&self) -> &[Font]
-        ensures fonts { result.now ≡ take (4096 - length (means self.now.below).names) self.now.fonts.items }
-        ensures few { length (means self.now.below).names + length result.now ≤ 4096 }
+        ensures fonts { result.now ≡ take (4096 - length (S.means self.now.below).names) self.now.fonts.items }
+        ensures few { length (S.means self.now.below).names + length result.now ≤ 4096 }
     {
         let room = 4096 - self.below.count().fonts as usize;
         part_of(self.fonts.as_slice(), room)

@@ -88,7 +88,7 @@ pub fn font(number: i64) -> u16 {
 
 // The bytes that a word spells by two digits each, or `-` for none.
 pub fn bytes(word: &[u8], heap: Global) -> Result<Vec<u8>, Problem> {
-    if word == b"-" {
+    if word == b"-".as_slice() {
         return Ok(Vec::new(heap));
     }
     let mut spelled = Vec::with_capacity(heap, word.len() / 2)?;

@@ -4,7 +4,8 @@ use std::fmt::Display;
 use std::io;
 use std::io::{BufWriter, Stdout, Write};
 
-// Standard output with a buffer. The first error is kept until the end, so that what writes need not look at each.
+// Standard output with a buffer, or with none where there is no memory for it. The first error is kept until the end, so
+// that what writes need not look at each.
 #[derive(Drop)]
 pub struct Output {
     to: BufWriter<Stdout>,
@@ -13,10 +14,11 @@ pub struct Output {
 
 impl Output {
     pub fn new(rt: &HostRuntime) -> Output {
-        Output {
-            to: BufWriter::new(rt.stdout()),
-            state: Ok(()),
-        }
+        let to = match BufWriter::new(rt.alloc(), rt.stdout()) {
+            Ok(to) => to,
+            Err(_) => unbuffered(rt),
+        };
+        Output { to, state: Ok(()) }
     }
 
     // What `write!` and `writeln!` call.
@@ -46,5 +48,13 @@ impl Output {
             Ok(()) => Ok(()),
             Err(error) => Err(Failure::Output(error)),
         }
+    }
+}
+
+// A writer that hands on each piece at once, and takes no memory.
+fn unbuffered(rt: &HostRuntime) -> BufWriter<Stdout> {
+    match BufWriter::with_capacity(rt.alloc(), 0, rt.stdout()) {
+        Ok(to) => to,
+        Err(_) => unreachable!(),
     }
 }

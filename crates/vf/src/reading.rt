@@ -25,7 +25,7 @@ pub(crate) struct Reader {
 
 // The tables of a VF file whose local fonts are found below, or the first refusal.
 pub fn read_vf<S: Shelf>(below: &S, file: &[u8]) -> Result<Vf, Refusal>
-    ensures { vf_in result ≡ vf_of (means below.now).names file.now }
+    ensures { vf_in result ≡ vf_of (S.means below.now).names file.now }
 {
     let Some(start) = first_item(file) else {
         return Err(Refusal::BrokenVf { place: 0 });
@@ -71,7 +71,7 @@ impl Reader {
     // Item by item to the end of the file.
     fn items<S: Shelf>(&mut self, below: &S, file: &[u8], start: usize) -> Result<(), Refusal>
         requires { start ≤ length file.now }
-        ensures { walked (reading_of self.new) result ≡ walk (means below.now).names file.now 0 start (length file.now - start) (reading_of self.old) }
+        ensures { walked (reading_of self.new) result ≡ walk (S.means below.now).names file.now 0 start (length file.now - start) (reading_of self.old) }
     {
         let mut at = start;
         while at < file.len() {
@@ -86,7 +86,7 @@ impl Reader {
     // The item at `at`; answers the place after it.
     fn item<S: Shelf>(&mut self, below: &S, file: &[u8], at: usize) -> Result<usize, Refusal>
         requires { at < length file.now }
-        ensures is { (reading_of self.new, result) ≡ item (means below.now).names file.now at (reading_of self.old) }
+        ensures is { (reading_of self.new, result) ≡ item (S.means below.now).names file.now at (reading_of self.old) }
         ensures on { IfOk result (λ n. (at < n) × (n ≤ length file.now)) }
     {
         match (file[at], self.phase) {
@@ -114,7 +114,7 @@ impl Reader {
         width: usize,
     ) -> Result<usize, Refusal>
         requires { at < length file.now }
-        ensures is { (reading_of self.new, result) ≡ defined (means below.now).names file.now at width (reading_of self.old) }
+        ensures is { (reading_of self.new, result) ≡ defined (S.means below.now).names file.now at width (reading_of self.old) }
         ensures on { IfOk result (λ n. (at < n) × (n ≤ length file.now)) }
     {
         if self.vf.is_full() {

@@ -4,4 +4,4 @@ use Rattle.document.proofs.Found.{font-most}
 use Rattle.document.proofs.fonts.font_by.Goals as goal
 
 pub returns : goal.returns
-returns c = font-most c.args.bytes.now _ _ _ _ _ _ _ c.part_front.ensures c.saturating_add.ensures (search rules) c.font_from.ensures
+returns c = font-most c.args.bytes.now _ _ _ _ _ _ _ c.part-front.ensures c.saturating_add.ensures (search rules) c.font_from.ensures

@@ -8,16 +8,13 @@ invariant_of-self-2 g c =
     let fs = vec_items c.args.self.now.fonts in
     let items : vec_items c.extend_from_slice.new.self ≡ bs ++ c.args.file.now = search rules in
     let start : c.len-start.result ≡ length bs = search rules in
-    let fonts = c.push_reserved.ensures.items in (
-      search rules,
-      (
-        search rules,
-        (
-          still_whole bs fs _ c.args.file.now _ _ items fonts start refl c.args.self.now.whole,
-          (still_laid bs fs _ c.args.file.now _ _ items fonts start refl c.args.self.now.laid, tt),
-        ),
-      ),
-    )
+    let fonts = c.push_reserved.ensures.items in
+    record {
+      room = search rules;
+      eight = search rules;
+      whole = still_whole bs fs _ c.args.file.now _ _ items fonts start refl c.args.self.now.whole;
+      laid = still_laid bs fs _ c.args.file.now _ _ items fonts start refl c.args.self.now.laid;
+    }
 
 pub returns : goal.returns
 returns g c =

@@ -7,7 +7,7 @@ use Rattle.vf.proofs.reading.Reader.items.Goals as goal
 
 pub returns-in_err-at : goal.returns-in_err-at
 returns-in_err-at g c =
-    let p = err_from_is_err_and c.from-residual.result c.from-residual.ensures.1 in
+    let p = err_from_is_err_and c.from_residual.result c.from_residual.ensures.1 in
     rw (p.1, p.2) (sym (c.loop-at.invariant.1 ∙ broke _ _ _ (reading_of c.loop-at.self) (reading_of c.item.new.self) _ c.in_err-at.ensures.is c.loop-at-test.true))
 
 pub loop-at-preserved : goal.loop-at-preserved
