@@ -20,7 +20,7 @@ CAMEL = re.compile(r"[a-z][a-z0-9]*[A-Z]")
 # names of std that lemmas here are named after
 # lemmas that stand beside a definition which comes to their name
 BESIDE = {"in_all": "in_all_lem", "within_by": "within_by_lem"}
-STD = set("append add take drop map length push and false true cond paste list_all list_any filter all sub mul set get get_or zero suc not".split())
+STD = set("append add take drop map length push and false true cond paste list_all list_any filter all sub mul set get get_or zero suc not more told blank".split())
 
 
 def files(root, *kinds):

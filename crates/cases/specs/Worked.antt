@@ -1,8 +1,8 @@
 -- Worked values, as one statement about the definitions.
-use Rattle.std.specs.Prelude.{◌≡◌, ℕ, ◌-◌, ◌^◌, Bool, true, false, [], ◌∷◌, ℤ, pos, negsuc, Some, None}
+use Rattle.std.specs.Prelude.{◌≡◌, ◌-◌, ◌^◌, true, false, [], ◌∷◌, pos, negsuc, Some, None}
 use Rattle.numbers.specs.Bytes.{number, signed, digits, complement}
 use Rattle.numbers.specs.FixWords.{scaled}
-use Rattle.numbers.specs.Lengths.{in_range, good_size, moved_to}
+use Rattle.numbers.specs.Lengths.{good_size, moved_to}
 
 -- size 655,360, and one size above 2^23
 abbrev pub Scaling : Type 0

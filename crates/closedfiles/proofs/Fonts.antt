@@ -1,16 +1,16 @@
 -- The definitions at the end of the file, walked over. Assumes nothing.
-use Rattle.std.proofs.Common.{◌≡◌, ℕ, zero, suc, ◌+◌, ◌-◌, ◌/◌, ◌^◌, ◌<◌, ◌≤◌, Bool, true, false, cond, not, ◌&&◌, ◌||◌, eqb, ltb, List, [], ◌∷◌, ◌++◌, length, get_or, drop, Some, None, Option, sym, refl, ap, ◌∙◌, subst, ap₂, append_assoc, append-nil, arith, length-append, length-drop}
+use Rattle.std.proofs.Common.{◌≡◌, ℕ, zero, suc, ◌+◌, ◌-◌, ◌/◌, ◌<◌, ◌≤◌, Bool, true, false, ◌&&◌, eqb, ltb, List, [], ◌∷◌, ◌++◌, length, get_or, drop, Some, None, sym, refl, ap, ◌∙◌, subst, ap₂, arith, length-drop}
 use Rattle.std.specs.List.{AllByRecursion as All, slice_get}
 use Rattle.std.proofs.lemmas.Bool.{lt-ltb, eq-eqb, ne_eqb, and_from, or_from}
 use Rattle.numbers.specs.Lengths.{good_size}
 use Rattle.shelf.specs.Laws.{Lawful}
 use Rattle.shelf.specs.Meaning.{Meaning, Facts}
 use Rattle.shelf.specs.Names.{good_name}
-use Rattle.commands.specs.Definitions.{Defined, definition_at}
+use Rattle.commands.specs.Definitions.{definition_at}
 use Rattle.copies.specs.declared.pairs.Pair.{Pair}
 use Rattle.copies.specs.Marks.{faces_of, define_bytes}
 use Rattle.copies.specs.Files.{fonts_bytes}
-use Rattle.document.specs.Fonts.{wide, defined_at, entry_of, entry_at, member, first_of, fair, unlawful, first_unlawful, defines, defined_in, font_from}
+use Rattle.document.specs.Fonts.{wide, defined_at, entry_of, entry_at, member, first_of, fair, unlawful, defines, defined_in}
 use Rattle.document.proofs.Walks.{turn, hit, miss}
 use Rattle.readback.proofs.Stands.{behind, inside, head_at}
 use Rattle.readback.proofs.Commands.{Fields, defined_by, length_define, definition-at}

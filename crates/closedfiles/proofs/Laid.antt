@@ -1,5 +1,5 @@
 -- What stands where in the closed file. Assumes nothing.
-use Rattle.std.proofs.Common.{◌≡◌, ℕ, zero, suc, ◌+◌, ◌-◌, ◌%◌, ◌<◌, ◌≤◌, List, [], ◌∷◌, ◌++◌, length, get_or, take, drop, replicate, sym, refl, ap, ◌∙◌, append_assoc, append-nil, arith, length-append}
+use Rattle.std.proofs.Common.{◌≡◌, ℕ, zero, suc, ◌+◌, ◌<◌, ◌≤◌, List, [], ◌∷◌, ◌++◌, length, get_or, take, drop, replicate, sym, refl, ap, ◌∙◌, append_assoc, append-nil, arith, length-append}
 use lib.ListN.{length-replicate}
 use Rattle.std.specs.List.{AllByRecursion as All}
 use Rattle.std.proofs.lemmas.List.{drop_at, take_at, drop-take, get_or-drop, get_or-replicate}
@@ -7,11 +7,11 @@ use Rattle.std.proofs.lemmas.Bool.{eq-eqb, ne_eqb}
 use Rattle.numbers.specs.Bytes.{digits}
 use Rattle.shelf.specs.Meaning.{Facts}
 use Rattle.copies.specs.Pages.{Page, Progress, page_bytes}
-use Rattle.copies.specs.Files.{Opening, units, front_bytes, fonts_bytes, post_bytes, padding, end_bytes, closing_bytes, progress, body, closed}
+use Rattle.copies.specs.Files.{Opening, front_bytes, fonts_bytes, post_bytes, padding, end_bytes, closing_bytes, progress, body, closed}
 use Rattle.document.specs.Legal.{bare}
 use Rattle.readback.specs.Reading.{Counted}
 use Rattle.readback.proofs.Stands.{behind, read_at}
-use Rattle.readback.proofs.Pages.{length-body, used-least}
+use Rattle.readback.proofs.Pages.{length-body}
 use Rattle.closedfiles.specs.Closed.{end_of}
 
 -- the front of the pages is the front

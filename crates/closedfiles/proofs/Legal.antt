@@ -1,6 +1,5 @@
 -- The closed file passes each check of a legal document. Assumes nothing.
-use Rattle.std.proofs.Common.{◌≡◌, ℕ, ◌+◌, ◌-◌, ◌^◌, ◌<◌, ◌≤◌, Bool, true, cond, ◌&&◌, eqb, leb, List, [], ◌∷◌, ◌++◌, length, get_or, take, drop, replicate, Some, None, Ok, Err, Option, Result, sym, refl, ap, ◌∙◌, ap₂, arith}
-use Rattle.std.specs.List.{AllByRecursion as All}
+use Rattle.std.proofs.Common.{◌≡◌, ℕ, ◌+◌, ◌-◌, ◌^◌, ◌<◌, ◌≤◌, eqb, leb, List, [], ◌∷◌, ◌++◌, length, get_or, take, drop, None, Ok, Option, Result, refl, ap, ◌∙◌, arith}
 use Rattle.std.proofs.lemmas.Bool.{le-leb, eq-eqb, and_from, cond-true}
 use Rattle.numbers.specs.Bytes.{digits}
 use Rattle.shelf.specs.declared.refusals.Refusal.{Refusal}
@@ -9,16 +8,16 @@ use Rattle.shelf.specs.Laws.{Lawful}
 use Rattle.shelf.specs.Meaning.{Meaning, Facts}
 use Rattle.copies.specs.Marks.{faces_of}
 use Rattle.copies.specs.Pages.{Page, Progress}
-use Rattle.copies.specs.Files.{Opening, front_bytes, post_bytes, end_bytes, progress, body, closed}
+use Rattle.copies.specs.Files.{Opening, front_bytes, post_bytes, end_bytes, progress, closed}
 use Rattle.document.specs.declared.documents.Document.{Document}
 use Rattle.document.specs.Bytes.{four, two}
 use Rattle.document.specs.Fonts.{first_unlawful}
-use Rattle.document.specs.Legal.{sized, started, units_before, bare, ended, units_behind, stated, after, after_place, judged_by, legal}
+use Rattle.document.specs.Legal.{sized, started, units_before, ended, units_behind, stated, after, after_place, judged_by, legal}
 use Rattle.document.specs.Pages.{past_comment, broken_from, broken_pointer}
 use Rattle.readback.proofs.Stands.{behind, read_at, number-at}
 use Rattle.readback.proofs.Pages.{used-least, page-count, progress-pairs}
 use Rattle.closedfiles.specs.Closed.{Writable, end_of, statement}
-use Rattle.closedfiles.proofs.Laid.{g, fonts, ending, file, filled, file-is, at_post, at-ending, at-number, at_id, fill-least, length-file, at_front, fonts-last, bare-is}
+use Rattle.closedfiles.proofs.Laid.{fonts, ending, filled, file-is, at_post, at-ending, at-number, at_id, fill-least, length-file, at_front, fonts-last, bare-is}
 use Rattle.closedfiles.proofs.Fonts.{all_lawful}
 use Rattle.closedfiles.proofs.Chain.{four_is, last_fits, chain_whole}
 

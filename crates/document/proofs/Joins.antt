@@ -1,12 +1,12 @@
 -- Two tests in one walk are one walk, and another up to where the first stopped; so windows add up. Assumes nothing.
-use Rattle.std.proofs.Common.{◌≡◌, ℕ, zero, suc, ◌+◌, ◌-◌, ◌*◌, ◌<◌, ◌≤◌, Bool, true, false, cond, not, ◌&&◌, ◌||◌, eqb, ltb, leb, ◌⊎◌, List, [], length, get_or, Some, None, Option, sym, refl, ap, ◌∙◌, inl, inr, arith}
+use Rattle.std.proofs.Common.{◌≡◌, ℕ, zero, suc, ◌+◌, ◌-◌, ◌<◌, ◌≤◌, Bool, true, false, cond, not, ◌&&◌, ◌||◌, eqb, ltb, leb, ◌⊎◌, List, [], length, get_or, Some, None, Option, sym, refl, ap, ◌∙◌, inl, inr, arith}
 use Rattle.std.proofs.lemmas.Bool.{lt-ltb, lt-leb, le-ltb, and_parts, leb-true, true≢false, eqb-true}
 use Rattle.std.proofs.lemmas.Bool.Decides.{nat_tests}
 use Rattle.numbers.specs.Bytes.{number}
-use Rattle.commands.specs.Definitions.{Defined, definition_at, name_length}
+use Rattle.commands.specs.Definitions.{Defined}
 use Rattle.document.specs.declared.entries.Entry.{Entry}
 use Rattle.document.specs.Fonts.{wide, defined_at, entry_of, entry_at, member, noted, noted_by, first_of, fair, unlawful, first_unlawful}
-use Rattle.document.specs.Windows.{again, again_by, within, within_by, unfair, wrong, stop_of, stop_at}
+use Rattle.document.specs.Windows.{again, within, within_by, unfair, wrong, stop_of, stop_at}
 use Rattle.document.proofs.Walks.{turn, hit, miss, at_least, before, same_first}
 
 abbrev or_else : Option ℕ → Option ℕ → Option ℕ

@@ -1,5 +1,5 @@
 -- A walk over the commands of the postamble: one command on, a command at which it stops, and its end. Assumes nothing.
-use Rattle.std.proofs.Common.{◌≡◌, ℕ, zero, suc, ◌+◌, ◌-◌, ◌<◌, ◌≤◌, Bool, true, false, cond, List, [], Some, None, Option, sym, refl, ap, ◌∙◌, arith}
+use Rattle.std.proofs.Common.{◌≡◌, ℕ, zero, suc, ◌+◌, ◌-◌, ◌<◌, ◌≤◌, Bool, true, false, cond, List, Some, None, Option, sym, refl, ap, ◌∙◌, arith}
 use Rattle.document.specs.declared.entries.Entry.{Entry}
 use Rattle.document.specs.Fonts.{entry_at, noted, noted_by, first_of}
 

@@ -1,9 +1,9 @@
 -- A packet's run and its character, as their calls answer them. Assumes nothing.
-use Rattle.std.proofs.Common.{◌≡◌, ℕ, ◌+◌, List, [], get_or, take, ℤ, Some, None, Ok, Err, Option, Result, sym, refl, ap, subst}
+use Rattle.std.proofs.Common.{◌≡◌, ℕ, ◌+◌, List, [], get_or, take, ℤ, Some, None, Ok, Err, Option, Result, refl, subst}
 use Rattle.numbers.specs.FixWords.{scaled}
 use Rattle.shelf.specs.Answers.{Answered}
 use Rattle.shelf.specs.Meaning.{Meaning}
-use Rattle.shelf.specs.Outcomes.{Outcome, Ending, well, fault, ends, faulty, bind, onward, link}
+use Rattle.shelf.specs.Outcomes.{Outcome, well, fault, ends, faulty, bind, link}
 use Rattle.shelf.specs.declared.marks.Link.{Link}
 use Rattle.shelf.specs.declared.marks.Mark.{Mark}
 use Rattle.shelf.specs.declared.refusals.Cause.{Cause}

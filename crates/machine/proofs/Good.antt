@@ -1,16 +1,15 @@
 -- Whatever is run over a lawful shelf makes good marks, and its faults have good chains. Assumes nothing.
-use Rattle.std.proofs.Common.{◌≡◌, ℕ, zero, suc, ◌+◌, ◌-◌, ◌^◌, ◌<◌, ◌≤◌, Bool, true, false, cond, ◌&&◌, eqb, ltb, List, [], ◌∷◌, ◌++◌, length, ℤ, pos, negsuc, Some, None, Ok, Err, Option, Result, sym, refl, ap, ◌∙◌, subst, ⊎_elim, arith, length-append}
+use Rattle.std.proofs.Common.{◌≡◌, ℕ, zero, suc, ◌-◌, ◌^◌, ◌<◌, ◌≤◌, Bool, true, false, cond, ◌&&◌, eqb, ltb, List, [], ◌∷◌, ◌++◌, length, ℤ, pos, negsuc, Some, None, Ok, Err, Option, Result, sym, refl, subst, arith, length-append}
 use Rattle.std.specs.List.{AllByRecursion as All}
 use Rattle.std.proofs.ByRecursion.{All-append, All-push, All-weaker}
 use Rattle.std.proofs.lemmas.Bool.{ltb-true, and_parts}
 use Rattle.numbers.specs.Lengths.{in_range, moved_to}
 use Rattle.shelf.specs.declared.marks.Link.{Link}
-use Rattle.shelf.specs.declared.marks.Mark.{Mark}
 use Rattle.shelf.specs.declared.refusals.Cause.{Cause}
 use Rattle.shelf.specs.declared.refusals.Cause.TheVariants.{NotAllowed, NoFont, NoCode, PastEnd, Frames, OutOfRange, BadSize}
 use Rattle.shelf.specs.Answers.{chain_of}
 use Rattle.shelf.specs.Laws.{GoodMark, GoodEnding, Lawful}
-use Rattle.shelf.specs.Meaning.{Meaning, FaceMeaning, called, started, point_at}
+use Rattle.shelf.specs.Meaning.{FaceMeaning, called, started, point_at}
 use Rattle.shelf.specs.Outcomes.{Outcome, Ending, well, fault, ends, faulty, bind, onward, link, link_ending, longer}
 use Rattle.shelf.specs.Served.{called-fault, called_runs}
 use Rattle.shelf.specs.Starting.{passed}
@@ -20,7 +19,7 @@ use Rattle.machine.specs.declared.registers.Registers.{Registers}
 use Rattle.machine.specs.declared.registers.Spacing.{Spacing}
 use Rattle.machine.specs.declared.registers.Spacing.TheVariants.{W, X, Y, Z}
 use Rattle.machine.specs.Frames.{pushed, popped}
-use Rattle.machine.specs.Steps.{World, State, Next, go, done, with_h, with_v, arrived, across, downward, spaced, with_spacing, measured, shifted, moved, advanced, kept, byte_of, coded, typeset, side, sides, drawn, ruled, with_frames, restored, selected, at_end, in_page, silently, exec}
+use Rattle.machine.specs.Steps.{World, State, Next, go, done, with_h, with_v, arrived, across, downward, spaced, with_spacing, measured, shifted, moved, advanced, kept, byte_of, coded, typeset, side, sides, drawn, ruled, with_frames, restored, selected, at_end, silently, exec}
 use Rattle.machine.specs.Runs.{turned, finished, continued, run}
 
 -- a value, or a short chain of links below a number of fonts

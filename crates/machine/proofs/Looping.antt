@@ -1,5 +1,5 @@
 -- The loop over commands: what has been done stands in front of what is to come. Assumes nothing.
-use Rattle.std.proofs.Common.{◌≡◌, ℕ, zero, suc, ◌+◌, ◌-◌, ◌<◌, ◌≤◌, List, [], ◌∷◌, ◌++◌, length, take, drop, Ok, Err, Result, sym, refl, ap, ◌∙◌, subst, append-nil, arith, length-drop, take-append-drop}
+use Rattle.std.proofs.Common.{◌≡◌, ℕ, zero, suc, ◌+◌, ◌-◌, ◌<◌, ◌≤◌, List, [], ◌++◌, length, take, drop, Ok, Err, Result, sym, refl, ap, ◌∙◌, subst, append-nil, arith, length-drop, take-append-drop}
 use borrow.Rule.Slice.PartMut.{put_mid}
 use Rattle.std.proofs.lemmas.List.{drop_all, length-take-le}
 use Rattle.shelf.specs.declared.marks.Link.{Link}
@@ -7,8 +7,8 @@ use Rattle.shelf.specs.declared.marks.Mark.{Mark}
 use Rattle.shelf.specs.declared.refusals.Cause.{Cause}
 use Rattle.shelf.specs.declared.refusals.Refusal.{Refusal}
 use Rattle.shelf.specs.declared.refusals.Refusal.TheVariants.{Fault}
-use Rattle.shelf.specs.Answers.{Answered, overlay, ended, chain_of, shift}
-use Rattle.shelf.specs.Outcomes.{Outcome, Ending, well, fault, ends, faulty, bind, onward, prepend, link, link_ending}
+use Rattle.shelf.specs.Answers.{Answered}
+use Rattle.shelf.specs.Outcomes.{Outcome, well, fault, ends, faulty, bind, onward, prepend, link}
 use Rattle.shelf.proofs.Compose.{accepted, refused, then_silent, failed, done as all_made, after, more_within, more-long, more-drop, more-total}
 use Rattle.commands.specs.Commands.{command_at}
 use Rattle.machine.specs.Steps.{World, State, Next, go, done}

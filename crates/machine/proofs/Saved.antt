@@ -1,8 +1,7 @@
 -- The table of frames as a list, the last one first. Assumes nothing.
-use Rattle.std.proofs.Common.{◌≡◌, ℕ, ◌+◌, ◌-◌, ◌<◌, ◌≤◌, Bool, true, false, cond, eqb, ltb, List, [], ◌∷◌, ◌++◌, reverse, length, get_or, take, set, Some, sym, refl, ap, ◌∙◌, arith}
+use Rattle.std.proofs.Common.{◌≡◌, ℕ, ◌+◌, ◌-◌, ◌<◌, ◌≤◌, List, [], ◌∷◌, reverse, length, get_or, take, set, sym, ap, ◌∙◌, arith}
 use mathlib.Core.List.{reverse-append}
 use Rattle.std.proofs.lemmas.List.{length-take-le, length-reverse, take_more, take_more_set}
-use Rattle.std.proofs.lemmas.Bool.{cond-true, cond-false, lt-ltb, le-ltb}
 
 module _ {X : Type 0} (xs : List X) (n : ℕ) (h : n ≤ length xs) where
   pub depth_is : length (reverse (take n xs)) ≡ n

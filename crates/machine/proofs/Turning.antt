@@ -1,5 +1,5 @@
 -- One command carried out at its place. Assumes nothing.
-use Rattle.std.proofs.Common.{◌≡◌, ℕ, List, [], Some, None, Ok, Err, Option, Result, sym, refl, ap, ◌∙◌, subst}
+use Rattle.std.proofs.Common.{◌≡◌, ℕ, List, [], Some, None, Ok, Err, Option, sym, refl, ap, ◌∙◌, subst}
 use Rattle.shelf.specs.declared.marks.Link.{Link}
 use Rattle.shelf.specs.declared.marks.Mark.{Mark}
 use Rattle.shelf.specs.declared.refusals.Cause.{Cause}
@@ -7,7 +7,7 @@ use Rattle.shelf.specs.declared.refusals.Cause.TheVariants.{PastEnd}
 use Rattle.shelf.specs.declared.refusals.Refusal.{Refusal}
 use Rattle.shelf.specs.declared.refusals.Refusal.TheVariants.{Fault, MarksFull}
 use Rattle.shelf.specs.Answers.{Answered, link_count, link_written}
-use Rattle.shelf.specs.Outcomes.{Outcome, Ending, well, fault, ends, faulty, bind, onward, link, link_ending}
+use Rattle.shelf.specs.Outcomes.{Outcome, well, fault, ends, faulty, bind, link, link_ending}
 use Rattle.shelf.proofs.Compose.{accepted, passed_on, refused, then_silent}
 use Rattle.shelf.specs.Served.{silent}
 use Rattle.commands.specs.Commands.{Cmd}

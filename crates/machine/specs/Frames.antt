@@ -1,5 +1,5 @@
 -- Saved frames, the last one first.
-use Rattle.std.specs.Prelude.{ℕ, Bool, true, false, cond, List, [], ◌∷◌, reverse, length, take, Some, None, Option, nat_lt}
+use Rattle.std.specs.Prelude.{Bool, true, false, cond, List, [], ◌∷◌, reverse, length, take, Some, None, Option, nat_lt}
 use Rattle.machine.specs.declared.frames.Frames.{Frames}
 use Rattle.machine.specs.declared.registers.Registers.{Registers}
 

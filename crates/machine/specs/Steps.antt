@@ -1,8 +1,7 @@
 -- What one command does, to the registers, the font and the frames, and with which marks.
-use Rattle.std.specs.Prelude.{ℕ, zero, suc, ◌+◌, ◌^◌, Bool, true, false, cond, ◌&&◌, List, [], ◌∷◌, length, ℤ, pos, negsuc, Some, None, Ok, Err, Option, Result, ◌==◌, nat_lt}
+use Rattle.std.specs.Prelude.{ℕ, Bool, true, false, cond, ◌&&◌, List, [], ◌∷◌, length, ℤ, pos, negsuc, Some, None, Ok, Err, Option, Result, ◌==◌, nat_lt}
 use Rattle.numbers.specs.Lengths.{moved_to}
 use Rattle.shelf.specs.declared.marks.Link.{Link}
-use Rattle.shelf.specs.declared.marks.Mark.{Mark}
 use Rattle.shelf.specs.declared.marks.Mark.TheVariants.{Rule}
 use Rattle.shelf.specs.declared.refusals.Cause.{Cause}
 use Rattle.shelf.specs.declared.refusals.Cause.TheVariants.{NotAllowed, Frames, NoFont, NoCode, OutOfRange, BadSize}

@@ -1,5 +1,5 @@
 -- Short packets, with the marks, the width or the fault and its chain that each comes to.
-use Rattle.std.specs.Prelude.{◌≡◌, ℕ, cond, List, [], ◌∷◌, ◌++◌, length, set, replicate, ℤ, pos, negsuc, Some, None, Option, ◌==◌, slice_set}
+use Rattle.std.specs.Prelude.{◌≡◌, ℕ, cond, List, [], ◌∷◌, length, replicate, ℤ, pos, Some, None, ◌==◌, slice_set}
 use Rattle.shelf.specs.declared.marks.Link.{Link}
 use Rattle.shelf.specs.declared.marks.Mark.{Mark}
 use Rattle.shelf.specs.declared.marks.Mark.TheVariants.{Glyph, Rule}
@@ -8,7 +8,6 @@ use Rattle.shelf.specs.declared.refusals.Cause.TheVariants.{NotAllowed, PastEnd,
 use Rattle.shelf.specs.Meaning.{Meaning}
 use Rattle.shelf.specs.Outcomes.{Outcome, well, fault, ends, faulty}
 use Rattle.vf.specs.declared.entries.Local.{Local}
-use Rattle.vf.specs.declared.entries.Packet.{Packet}
 use Rattle.vf.specs.Fonts.{VfFont}
 use Rattle.expansion.specs.Expanding.{Character, expanded}
 

@@ -1,14 +1,14 @@
 -- Calls of a rank's characters. Assumes nothing.
-use Rattle.std.proofs.Common.{◌≡◌, ℕ, zero, suc, ◌+◌, ◌-◌, ◌<◌, ◌≤◌, cond, ◌&&◌, ltb, List, [], ◌∷◌, ◌++◌, map, length, get_or, ℤ, Some, None, Ok, Err, Option, Result, sym, refl, ap, ◌∙◌, arith, length-append}
+use Rattle.std.proofs.Common.{◌≡◌, ℕ, zero, suc, ◌-◌, ◌<◌, ◌≤◌, cond, ◌&&◌, List, [], ◌∷◌, ◌++◌, map, length, get_or, ℤ, Some, Ok, Err, Result, sym, refl, ap, ◌∙◌, arith, length-append}
 use Rattle.std.proofs.lemmas.Bool.{cond-true, cond-false, lt-ltb, le-ltb}
 use Rattle.std.specs.List.{slice_get}
 use Rattle.shelf.specs.declared.refusals.Cause.{Cause}
 use Rattle.shelf.specs.declared.refusals.Cause.TheVariants.{NoFont, OutOfRange, BadSize}
 use Rattle.numbers.specs.Lengths.{good_size, in_range}
 use Rattle.shelf.specs.Meaning.{Meaning, called, started}
-use Rattle.shelf.specs.Outcomes.{Outcome, faulty}
+use Rattle.shelf.specs.Outcomes.{faulty}
 use Rattle.shelf.specs.Served.{called-fault, called_runs}
-use Rattle.expansion.specs.Expanding.{Character, expanded}
+use Rattle.expansion.specs.Expanding.{expanded}
 use Rattle.rank.specs.Entries.{Entry, entry_name}
 use Rattle.rank.specs.Ranks.{rank_meaning, file_outcome}
 

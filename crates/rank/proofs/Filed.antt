@@ -1,6 +1,6 @@
 -- Files added one after the other. Assumes nothing.
 use Rattle.std.proofs.Common.{◌≡◌, ℕ, ◌+◌, ◌<◌, ◌≤◌, min, List, [], ◌∷◌, ◌++◌, map, length, get_or, take, drop, set, Result, sym, refl, ap, ◌∙◌, arith}
-use Rattle.std.proofs.lemmas.List.{length-map, take-map, take_more, take_more_set, drop-set-lt, drop-drop, length-set}
+use Rattle.std.proofs.lemmas.List.{take-map, take_more, take_more_set, drop-set-lt, drop-drop, length-set}
 use Rattle.shelf.specs.declared.refusals.Refusal.{Refusal}
 use Rattle.shelf.specs.Meaning.{Meaning}
 use Rattle.rank.specs.Adding.{Added, AllAdded, Given, added, next_added, added_all}

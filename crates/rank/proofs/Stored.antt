@@ -1,11 +1,11 @@
 -- One file more at the end of the bytes. Assumes nothing.
-use Rattle.std.proofs.Common.{◌≡◌, ℕ, ◌+◌, ◌-◌, ◌<◌, ◌≤◌, true, ◌&&◌, leb, List, [], ◌∷◌, ◌++◌, map, length, take, drop, sym, refl, ap, ◌∙◌, arith}
+use Rattle.std.proofs.Common.{◌≡◌, ℕ, ◌+◌, ◌≤◌, true, leb, List, [], ◌∷◌, ◌++◌, length, take, drop, refl, ◌∙◌, arith}
 use Rattle.std.proofs.lemmas.Bool.{leb-true, le-leb, and_parts}
 use Rattle.std.proofs.lemmas.List.{length-drop, length-take-le, drop-append-le, take-append-le, drop_at, take_all, length-append, map_push}
 use Rattle.vf.specs.Fonts.{font_of}
 use Rattle.rank.specs.declared.fonts.Font.{Font}
 use Rattle.rank.specs.Laid.{total, inside, font_name}
-use Rattle.rank.specs.Entries.{Entry, entry_of, entries_of, in_all}
+use Rattle.rank.specs.Entries.{entry_of, entries_of, in_all}
 
 module _ (bs : List ℕ) where
   -- the bytes in all are those of the files

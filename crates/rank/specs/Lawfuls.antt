@@ -1,7 +1,7 @@
 -- A rank over a lawful shelf is lawful. Assumes nothing.
 use Rattle.std.specs.Prelude.{◌≡◌, ℕ, ◌+◌, ◌-◌, ◌<◌, ◌≤◌, Bool, true, false, cond, List, [], ◌∷◌, ◌++◌, map, length, take, ℤ, Some, None, Ok, Err, Option, Result, nat_lt, slice_index_or}
 use Rattle.std.proofs.Math.Path.{refl}
-use Rattle.std.proofs.Common.{sym, ap, ◌∙◌, subst, length-append}
+use Rattle.std.proofs.Common.{ap, ◌∙◌, subst, length-append}
 use native.Mathlib.Omega.{arith}
 use Rattle.std.proofs.lemmas.Int.{ints}
 use Rattle.std.proofs.ByRecursion.{All-append, All-weaker}
@@ -16,9 +16,9 @@ use Rattle.shelf.specs.declared.refusals.Cause.{Cause}
 use Rattle.shelf.specs.declared.refusals.Cause.TheVariants.{NoFont, NoCode, BadSize}
 use Rattle.shelf.specs.Answers.{chain_of}
 use Rattle.shelf.specs.Laws.{GoodMark, GoodEnding, GoodFace, GoodOutcome, Lawful}
-use Rattle.shelf.specs.Meaning.{Meaning, FaceMeaning, face_outcome}
+use Rattle.shelf.specs.Meaning.{Meaning, FaceMeaning}
 use Rattle.shelf.specs.Names.{GoodName, found_in}
-use Rattle.shelf.specs.Outcomes.{Outcome, Ending, well, fault, ends, faulty, bind, onward, link}
+use Rattle.shelf.specs.Outcomes.{Outcome, Ending, well, fault, ends, faulty, onward, link}
 use Rattle.shelf.specs.Finding.{found_within}
 use Rattle.machine.specs.declared.registers.Chosen.{Chosen}
 use Rattle.machine.specs.Runs.{run_from}

@@ -1,5 +1,5 @@
 -- What a rank means, by what the shelf below it means.
-use Rattle.std.specs.Prelude.{ℕ, ◌+◌, ◌-◌, ◌≤◌, cond, List, ◌++◌, map, length, take, ℤ, Some, None, Option, nat_lt}
+use Rattle.std.specs.Prelude.{◌+◌, ◌-◌, ◌≤◌, cond, List, ◌++◌, map, length, take, ℤ, Some, None, Option, nat_lt}
 use Rattle.std.specs.List.{slice_get}
 use Rattle.shelf.specs.declared.refusals.Cause.TheVariants.{NoFont}
 use Rattle.shelf.specs.Meaning.{Meaning}

@@ -1,15 +1,13 @@
 -- The commands that a copy writes, read where their bytes stand. Assumes nothing.
-use Rattle.std.proofs.Common.{◌≡◌, ℕ, zero, suc, ◌+◌, ◌-◌, ◌*◌, ◌/◌, ◌%◌, ◌^◌, ◌<◌, ◌≤◌, Bool, true, cond, ◌&&◌, ltb, leb, List, [], ◌∷◌, ◌++◌, length, get_or, take, drop, ℤ, pos, Some, None, Option, sym, refl, ap, ◌∙◌, ap₂, arith, length-append}
+use Rattle.std.proofs.Common.{◌≡◌, ℕ, zero, suc, ◌+◌, ◌-◌, ◌*◌, ◌/◌, ◌%◌, ◌^◌, ◌<◌, true, leb, List, [], ◌∷◌, ◌++◌, length, take, drop, ℤ, pos, Some, Option, sym, refl, ap, ◌∙◌, ap₂, arith}
 use Rattle.std.specs.Option.{option_map}
 use Rattle.std.proofs.lemmas.Bool.{lt-ltb, le-ltb, le-leb, and_from, cond-true}
-use Rattle.numbers.specs.Bytes.{is_width, digits, complement, signed, signed_fits, signed_at, number_at, number}
-use Rattle.numbers.proofs.Digits.{length_digits}
+use Rattle.numbers.specs.Bytes.{is_width, digits, complement, signed_fits, signed_at, number}
 use Rattle.shelf.specs.Meaning.{Facts}
-use Rattle.commands.specs.declared.kinds.Kind.{Kind}
 use Rattle.commands.specs.declared.kinds.Kind.TheVariants as K
 use Rattle.commands.specs.Kinds.{kind_of}
 use Rattle.commands.specs.Definitions.{Defined, name_length, definition_at}
-use Rattle.commands.specs.Commands.{Cmd, put, put_rule, eop, right, down, fnt, fnt_def, read_by, read_as, sides, command_at}
+use Rattle.commands.specs.Commands.{put, put_rule, eop, right, down, fnt, fnt_def, read_by, sides, command_at}
 use Rattle.copies.specs.Marks.{define_bytes}
 use Rattle.readback.proofs.Stands.{behind, inside, read_at, taken, head_at, number-at, number_at-is, signed_at-is}
 

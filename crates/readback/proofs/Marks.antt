@@ -1,14 +1,13 @@
 -- Marks that were written are read again: a move, a definition, a selection, a glyph and a rule, and then all of a page's. Assumes nothing.
-use Rattle.std.proofs.Common.{◌≡◌, ℕ, zero, suc, ◌+◌, ◌-◌, ◌*◌, ◌/◌, ◌^◌, ◌<◌, ◌≤◌, Bool, true, false, cond, ◌&&◌, T, eqb, ltb, List, [], ◌∷◌, ◌++◌, map, length, get_or, drop, ℤ, pos, negsuc, ◌+ℤ◌, ◌-ℤ◌, nat_abs, ◌≤ℤ◌, is_some, Some, None, Ok, Err, Option, Result, sym, refl, ap, ◌∙◌, subst, ap₂, append_assoc, append-nil, arith, length-append}
+use Rattle.std.proofs.Common.{◌≡◌, ℕ, ◌+◌, ◌*◌, ◌^◌, ◌<◌, ◌≤◌, Bool, true, false, cond, T, eqb, ltb, List, [], ◌∷◌, ◌++◌, map, length, drop, ℤ, pos, negsuc, ◌+ℤ◌, ◌-ℤ◌, nat_abs, ◌≤ℤ◌, is_some, Some, None, Ok, Err, Option, Result, sym, refl, ap, ◌∙◌, subst, ap₂, arith}
 use lib.Signed.{le_z, le_z_yes}
-use lib.ListN.{length-map}
 use Rattle.std.specs.Option.{option_map}
 use Rattle.std.specs.List.{AllByRecursion as All, slice_get}
 use Rattle.std.proofs.ByRecursion.{All-get_or}
 use Rattle.std.proofs.lemmas.Int.{ints}
-use Rattle.std.proofs.lemmas.Bool.{eqb-true, lt-ltb, ltb-true, and_parts, and_from, cond-true}
+use Rattle.std.proofs.lemmas.Bool.{eqb-true, lt-ltb, ltb-true, and_parts}
 use Rattle.numbers.specs.Bytes.{digits, complement, signed_fits}
-use Rattle.numbers.specs.Lengths.{in_range, good_size}
+use Rattle.numbers.specs.Lengths.{in_range}
 use Rattle.numbers.proofs.Digits.{length_digits}
 use Rattle.shelf.specs.declared.marks.Mark.{Mark}
 use Rattle.shelf.specs.declared.marks.Mark.TheVariants.{Glyph, Rule}
@@ -17,7 +16,7 @@ use Rattle.shelf.specs.Alone.{name_of, faces_alone}
 use Rattle.shelf.specs.Laws.{GoodMark, Lawful}
 use Rattle.shelf.specs.Meaning.{Meaning, Facts, FaceMeaning, facts_of, width_in, point_at, called}
 use Rattle.shelf.specs.Names.{GoodName}
-use Rattle.shelf.specs.Outcomes.{Outcome, well, ends, bind}
+use Rattle.shelf.specs.Outcomes.{well, ends, bind}
 use Rattle.shelf.specs.FaceLaws.{named}
 use Rattle.shelf.specs.Finding.{found_within, found_bears}
 use Rattle.commands.specs.Commands.{Cmd, put, put_rule, right, down, fnt, fnt_def, command_at}
@@ -26,11 +25,11 @@ use Rattle.machine.specs.Steps.{World, State, go, kept, side, sides, drawn, rule
 use Rattle.machine.specs.Runs.{run_from}
 use Rattle.copies.specs.declared.pairs.Pair.{Pair}
 use Rattle.copies.specs.Pairs.{pair_by, numbered, entered}
-use Rattle.copies.specs.Marks.{move_width, move_bytes, define_bytes, facts_or, faces_of, Pen, mark_h, mark_v, moved_to, is_last, selecting, font_bytes, shape_bytes, mark_bytes, last_after, pairs_after, pen_after, marks_bytes, pen_after_all}
-use Rattle.readback.specs.Reading.{Selects, placed, pair_font}
+use Rattle.copies.specs.Marks.{move_width, move_bytes, define_bytes, facts_or, faces_of, Pen, mark_h, mark_v, moved_to, is_last, selecting, font_bytes, shape_bytes, mark_bytes, pen_after, marks_bytes, pen_after_all}
+use Rattle.readback.specs.Reading.{Selects, placed}
 use Rattle.readback.proofs.Commands.{Fields, defined_by, right-at, down-at, select_at, put-at, rule_at, define_at, length_define}
 use Rattle.readback.proofs.Leading.{Leads, command_leads, nothing-leads, then_leads, end-leads}
-use Rattle.readback.proofs.Pairs.{Alike, Grown, GoodPair, face-is_there, pair-numbered, alike_font, nth_within, grown_keeps, grown_length, marks-pairs}
+use Rattle.readback.proofs.Pairs.{GoodPair, face-is_there, pair-numbered, alike_font, nth_within, grown_keeps, marks-pairs}
 
 pub some_there : {X : Type 0} (o : Option X) → is_some o ≡ true → (x : X) × (o ≡ Some x)
 some_there (Some x) e = (x, refl)

@@ -1,5 +1,5 @@
 -- Pages that were written: how long they are, which pairs they bring, and that they read back. Assumes nothing.
-use Rattle.std.proofs.Common.{◌≡◌, ℕ, ◌+◌, ◌-◌, ◌<◌, ◌≤◌, List, [], ◌∷◌, ◌++◌, length, take, drop, sym, refl, ap, ◌∙◌, append_assoc, arith, length-append}
+use Rattle.std.proofs.Common.{◌≡◌, ℕ, ◌+◌, ◌<◌, ◌≤◌, List, [], ◌∷◌, ◌++◌, length, drop, refl, ap, ◌∙◌, append_assoc, arith, length-append}
 use Rattle.std.specs.List.{AllByRecursion as All}
 use Rattle.std.proofs.ByRecursion.{All-weaker}
 use Rattle.numbers.specs.Bytes.{digits}
@@ -8,13 +8,12 @@ use Rattle.shelf.specs.Meaning.{Meaning, Facts}
 use Rattle.shelf.specs.Outcomes.{well, ends}
 use Rattle.machine.specs.Steps.{World}
 use Rattle.machine.specs.Runs.{run_from}
-use Rattle.copies.specs.declared.pairs.Pair.{Pair}
 use Rattle.copies.specs.Marks.{faces_of, marks_bytes, pen_after_all}
 use Rattle.copies.specs.Pages.{Page, Progress, page_pen, page_bytes, with_page}
-use Rattle.copies.specs.Files.{front_bytes, begun, progress, body}
+use Rattle.copies.specs.Files.{front_bytes, progress, body}
 use Rattle.readback.specs.Reading.{Selects, Counted, GoodPage, page_start}
 use Rattle.readback.proofs.Stands.{behind}
-use Rattle.readback.proofs.Pairs.{Grown, Between, GoodPair, length-marks, at_most, marks_places, marks-pairs, grown_none, grown_more, grown_weaker, grown_all, grown_length}
+use Rattle.readback.proofs.Pairs.{Grown, Between, GoodPair, length-marks, at_most, marks_places, marks-pairs, grown_weaker, grown_all}
 use Rattle.readback.proofs.Marks.{marks-read}
 
 module _ (F : ℕ → Facts) where

@@ -1,7 +1,7 @@
 -- The pairs of a copy as it grows: each number keeps its pair, and each new pair is a good one of the bytes written. Assumes nothing.
-use Rattle.std.proofs.Common.{◌≡◌, ℕ, zero, suc, ◌+◌, ◌<◌, ◌≤◌, Bool, true, false, cond, ◌&&◌, eqb, List, [], ◌∷◌, ◌++◌, length, get_or, ℤ, is_some, Some, None, Option, sym, refl, ap, ◌∙◌, subst, append_assoc, append-nil, arith, length-append}
+use Rattle.std.proofs.Common.{◌≡◌, ℕ, zero, suc, ◌+◌, ◌<◌, ◌≤◌, Bool, true, eqb, List, [], ◌∷◌, ◌++◌, length, get_or, is_some, Some, None, Option, sym, refl, ap, ◌∙◌, subst, append_assoc, append-nil, arith, length-append}
 use Rattle.std.specs.List.{AllByRecursion as All, slice_get}
-use Rattle.std.proofs.ByRecursion.{All-append, All-push, All-weaker}
+use Rattle.std.proofs.ByRecursion.{All-append, All-weaker}
 use Rattle.std.proofs.lemmas.Option.{slice_get-get_or}
 use Rattle.std.proofs.lemmas.Bool.{eqb-true, and_parts}
 use Rattle.numbers.specs.Lengths.{good_size}
@@ -13,7 +13,7 @@ use Rattle.shelf.specs.Meaning.{Meaning, Facts, FaceMeaning, width_in}
 use Rattle.machine.specs.declared.registers.Chosen.{Chosen}
 use Rattle.copies.specs.declared.pairs.Pair.{Pair}
 use Rattle.copies.specs.Pairs.{is_pair, pair_by, numbered, entered}
-use Rattle.copies.specs.Marks.{Pen, mark_h, mark_v, moved_to, font_bytes, shape_bytes, mark_bytes, last_after, pairs_after, pen_after, marks_bytes, pen_after_all}
+use Rattle.copies.specs.Marks.{Pen, moved_to, font_bytes, shape_bytes, mark_bytes, pen_after, marks_bytes, pen_after_all}
 use Rattle.readback.specs.Reading.{pair_font}
 
 -- by number

@@ -1,5 +1,5 @@
 -- What stands from a place of some bytes on, and the numbers read there. Assumes nothing.
-use Rattle.std.proofs.Common.{◌≡◌, ℕ, ◌+◌, ◌*◌, ◌^◌, ◌<◌, ◌≤◌, Bool, true, cond, ◌&&◌, leb, List, [], ◌∷◌, ◌++◌, length, get_or, take, drop, replicate, ℤ, pos, negsuc, Some, None, sym, refl, ap, ◌∙◌, zero-add, arith, length-append, length-drop, rules}
+use Rattle.std.proofs.Common.{◌≡◌, ℕ, ◌+◌, ◌*◌, ◌^◌, ◌<◌, ◌≤◌, true, leb, List, [], ◌∷◌, ◌++◌, length, get_or, take, drop, replicate, ℤ, pos, negsuc, Some, sym, refl, ap, ◌∙◌, zero-add, arith, length-append, length-drop, rules}
 use lib.ListN.{length-replicate}
 use lib.Seq.{paste}
 use Rattle.std.proofs.lemmas.List.Prefix.{at_reads}

@@ -1,5 +1,5 @@
 -- Short lists of marks with the bytes that a copy writes for them.
-use Rattle.std.specs.Prelude.{◌≡◌, ℕ, List, [], ◌∷◌, ℤ, pos, negsuc, None}
+use Rattle.std.specs.Prelude.{◌≡◌, ℕ, List, [], ◌∷◌, pos, negsuc, None}
 use Rattle.shelf.specs.declared.marks.Mark.{Mark}
 use Rattle.shelf.specs.declared.marks.Mark.TheVariants.{Glyph, Rule}
 use Rattle.shelf.specs.Meaning.{Facts}

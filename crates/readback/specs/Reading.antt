@@ -1,5 +1,5 @@
 -- What a page runs over when a copy of it is read, and that a page which was written reads back as its marks.
-use Rattle.std.specs.Prelude.{◌≡◌, ℕ, ◌+◌, ◌≤◌, true, List, [], ◌∷◌, ◌++◌, length, drop, ℤ, pos, Some, None, Ok, Option}
+use Rattle.std.specs.Prelude.{◌≡◌, ℕ, ◌+◌, ◌≤◌, true, List, [], ◌++◌, length, drop, ℤ, pos, Some, None, Ok, Option}
 use Rattle.std.specs.List.{AllByRecursion as All, slice_get}
 use Rattle.shelf.specs.Alone.{faces_alone}
 use Rattle.shelf.specs.Laws.{GoodMark, Lawful}

@@ -1,5 +1,5 @@
 -- Outcomes compose: calls one after another, each on the rest of the mark list. Assumes nothing.
-use Rattle.std.proofs.Common.{◌≡◌, ℕ, zero, suc, ◌+◌, ◌-◌, ◌<◌, ◌≤◌, Bool, true, false, cond, ltb, ◌⊎◌, List, [], ◌∷◌, ◌++◌, length, take, drop, set, Ok, Err, Result, sym, refl, ap, ◌∙◌, subst, inl, inr, ⊎_elim, append_assoc, append-nil, zero-le, arith, length-append, length-drop, take-append-drop}
+use Rattle.std.proofs.Common.{◌≡◌, ℕ, suc, ◌+◌, ◌-◌, ◌<◌, ◌≤◌, Bool, true, false, cond, ltb, List, [], ◌∷◌, ◌++◌, length, take, drop, set, Ok, Err, Result, sym, refl, ap, ◌∙◌, subst, ⊎_elim, append_assoc, append-nil, arith, length-append, length-drop, take-append-drop}
 use Rattle.std.proofs.lemmas.List.{length-take-le, drop-drop}
 use Rattle.std.proofs.lemmas.Bool.{cases_lt}
 use Rattle.shelf.specs.declared.marks.Mark.{Mark}
@@ -7,8 +7,8 @@ use Rattle.shelf.specs.declared.marks.Link.{Link}
 use Rattle.shelf.specs.declared.refusals.Cause.{Cause}
 use Rattle.shelf.specs.declared.refusals.Refusal.{Refusal}
 use Rattle.shelf.specs.declared.refusals.Refusal.TheVariants.{Fault, MarksFull}
-use Rattle.shelf.specs.Outcomes.{Outcome, Ending, well, fault, ends, prepend, onward, bind, longer, link_ending, link}
-use Rattle.shelf.specs.Answers.{answer, linked, overlay, ended, chain_of, Answered, shift, link_count, link_written}
+use Rattle.shelf.specs.Outcomes.{Outcome, Ending, well, fault, ends, prepend, onward, longer, link}
+use Rattle.shelf.specs.Answers.{overlay, ended, chain_of, Answered, shift, link_count, link_written}
 use Rattle.shelf.specs.Served.{answer-fits, answer-full, linked-fits, linked-full, made, silent}
 
 pub overlay-append : {X : Type 0} (p q xs : List X) → length p ≤ length xs → overlay (p ++ q) xs ≡ p ++ overlay q (drop (length p) xs)

@@ -1,5 +1,5 @@
 -- The faces alone are a lawful shelf. Assumes nothing.
-use Rattle.std.specs.Prelude.{◌≡◌, ℕ, zero, suc, ◌<◌, ◌≤◌, true, List, [], ◌∷◌, map, length, get_or, ℤ, Some, None, Ok, Option, Result, ◌≢◌, slice_index_or, refl}
+use Rattle.std.specs.Prelude.{◌≡◌, ℕ, zero, suc, ◌<◌, true, List, [], ◌∷◌, map, length, get_or, ℤ, Some, None, Ok, Option, Result, ◌≢◌, slice_index_or, refl}
 use Rattle.std.proofs.Common.{sym, ap, ◌∙◌, subst, arith}
 use Rattle.std.proofs.lemmas.List.{length-map}
 use Rattle.std.proofs.ByRecursion.{All-from_get_or, All-get_or}
@@ -9,7 +9,7 @@ use Rattle.numbers.specs.Lengths.{good_size, in_range}
 use Rattle.shelf.specs.declared.refusals.Cause.{Cause}
 use Rattle.shelf.specs.Names.{GoodName, Distinct, found_in}
 use Rattle.shelf.specs.Meaning.{Meaning, FaceMeaning, Facts, facts_of, called, started, face_outcome, width_in}
-use Rattle.shelf.specs.Laws.{GoodFace, GoodOutcome, Lawful}
+use Rattle.shelf.specs.Laws.{GoodOutcome, Lawful}
 use Rattle.shelf.specs.Alone.{name_of, faces_alone}
 use Rattle.shelf.specs.Finding.{found_within, found_bears, found_distinct}
 use Rattle.shelf.specs.Served.{called_runs}

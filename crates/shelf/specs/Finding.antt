@@ -1,11 +1,10 @@
 -- The first font that bears a name. Assumes nothing.
-use Rattle.std.specs.Prelude.{◌≡◌, ℕ, ◌+◌, ◌<◌, Bool, true, false, cond, List, [], ◌∷◌, ◌++◌, length, get_or, Some, None, Decides, ◌≢◌, slice_index_or, refl}
-use Rattle.std.proofs.Common.{sym, ap, ◌∙◌, ⊎_elim, arith, length-append, rules}
+use Rattle.std.specs.Prelude.{◌≡◌, ℕ, ◌+◌, ◌<◌, Bool, true, false, List, [], ◌∷◌, ◌++◌, length, get_or, Some, None, Decides, ◌≢◌, slice_index_or, refl}
+use Rattle.std.proofs.Common.{sym, ◌∙◌, ⊎_elim, arith, length-append, rules}
 use Rattle.std.specs.Str.{bytes_eq}
 use Rattle.std.proofs.lemmas.Slice.Eq.{bytes_eq-Decides}
 use Rattle.std.proofs.lemmas.List.{get_or_append_left, get_or_push}
 use Rattle.std.proofs.lemmas.Bool.{cases_Bool, cases_eq, cases_order, both_ways}
-use Rattle.numbers.specs.Match.{first_match}
 use Rattle.numbers.proofs.Seek.{at_first, match_within, match_passes, none-at}
 use Rattle.shelf.specs.Names.{found_in, Distinct, Apart}
 

@@ -1,6 +1,6 @@
 -- How `Answered` is made. Assumes nothing.
-use Rattle.std.specs.Prelude.{◌≡◌, ℕ, ◌+◌, ◌<◌, ◌≤◌, List, [], ◌∷◌, ◌++◌, length, ℤ, Ok, Err, Result, slice_set, refl}
-use Rattle.std.proofs.Common.{sym, ap, ◌∙◌, subst, zero-le, arith}
+use Rattle.std.specs.Prelude.{◌≡◌, ℕ, ◌<◌, ◌≤◌, List, [], ◌∷◌, length, ℤ, Ok, Err, slice_set, refl}
+use Rattle.std.proofs.Common.{sym, ap, subst, zero-le, arith}
 use Rattle.std.proofs.lemmas.Bool.{cond-true, cond-false, le-leb, lt-leb}
 use Rattle.shelf.specs.declared.marks.Mark.{Mark}
 use Rattle.shelf.specs.declared.marks.Link.{Link}

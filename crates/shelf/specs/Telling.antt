@@ -1,5 +1,5 @@
 -- What `face` answers, as facts about a face.
-use Rattle.std.specs.Prelude.{ℕ, List, Option}
+use Rattle.std.specs.Prelude.{Option}
 use Rattle.std.specs.Option.{option_map}
 use Rattle.shelf.specs.declared.fonts.Face.{Face}
 use Rattle.shelf.specs.Meaning.{Facts}

@@ -1,5 +1,5 @@
 -- A TFM file as a function of its bytes: twelve counts of two bytes, and then words of four.
-use Rattle.std.specs.Prelude.{ℕ, zero, suc, ◌+◌, ◌-◌, ◌*◌, ◌^◌, ◌<◌, ◌≤◌, Bool, true, cond, ◌&&◌, ◌||◌, ltb, List, length, Some, None, Option, ◌==◌, nat_le, nat_lt, slice_index}
+use Rattle.std.specs.Prelude.{ℕ, zero, suc, ◌+◌, ◌-◌, ◌*◌, ◌^◌, ◌<◌, ◌≤◌, Bool, true, ◌&&◌, ◌||◌, ltb, List, length, ◌==◌, nat_le, nat_lt, slice_index}
 use Rattle.numbers.specs.Bytes.{number}
 
 -- the counts that the rest depends on: words in the file, header words, first and last code, widths

@@ -1,8 +1,7 @@
 -- A TFM shelf is a lawful shelf. Assumes nothing.
-use Rattle.std.specs.Prelude.{◌≡◌, ℕ, zero, suc, ◌+◌, ◌-◌, ◌*◌, ◌<◌, ◌≤◌, Bool, true, false, cond, ◌&&◌, List, [], ◌∷◌, map, length, ℤ, pos, negsuc, ◌≤ℤ◌, is_some, Some, None, Ok, Err, Option, Result, ◌==◌, nat_le, nat_lt, slice_index, slice_index_or, refl}
+use Rattle.std.specs.Prelude.{◌≡◌, ℕ, zero, suc, ◌+◌, ◌-◌, ◌*◌, ◌<◌, ◌≤◌, Bool, true, false, cond, ◌&&◌, List, [], ◌∷◌, map, length, ℤ, is_some, Some, None, Ok, Err, Option, Result, ◌==◌, nat_le, nat_lt, slice_index, slice_index_or, refl}
 use Rattle.std.proofs.Common.{sym, ap, ◌∙◌, subst, arith}
-use Rattle.std.proofs.lemmas.List.{length-map, get_or-map, length-take-le}
-use Rattle.std.proofs.lemmas.Option.{slice_get-get_or, slice_get_past}
+use Rattle.std.proofs.lemmas.List.{length-map, length-take-le}
 use Rattle.std.proofs.lemmas.Int.{ints}
 use Rattle.std.proofs.lemmas.Bool.{ltb-true, and_parts}
 use Rattle.std.specs.List.{AllByRecursion as All, slice_get}
@@ -14,8 +13,8 @@ use Rattle.shelf.specs.declared.refusals.Cause.{Cause}
 use Rattle.shelf.specs.Outcomes.{faulty}
 use Rattle.shelf.specs.Alone.{name_of}
 use Rattle.shelf.specs.Laws.{GoodFace, GoodFacts, GoodOutcome, Lawful}
-use Rattle.shelf.specs.Meaning.{Meaning, FaceMeaning, called, started, face_outcome, width_in}
-use Rattle.shelf.specs.Names.{GoodName, Distinct, found_in}
+use Rattle.shelf.specs.Meaning.{FaceMeaning, called, started, face_outcome, width_in}
+use Rattle.shelf.specs.Names.{GoodName, found_in}
 use Rattle.shelf.specs.Spelling.{spelled}
 use Rattle.shelf.specs.FaceLaws.{named}
 use Rattle.shelf.specs.Finding.{apart_distinct, found_distinct}

@@ -2,7 +2,6 @@
 use Rattle.std.specs.Prelude.{ℕ, List, map}
 use Rattle.std.specs.List.{slice_get}
 use Rattle.shelf.specs.Meaning.{Meaning, FaceMeaning, face_outcome, width_in}
-use Rattle.shelf.specs.Alone.{name_of}
 use Rattle.tfm.specs.Outlines.{Outline}
 use Rattle.tfm.specs.Widths.{width_of}
 

@@ -1,5 +1,5 @@
 -- The walk from here finds what the walk from the start does.
-use Rattle.std.proofs.Common.{◌≡◌, ◌-◌, List, [], length}
+use Rattle.std.proofs.Common.{◌-◌, length}
 use Rattle.document.proofs.Found.{Sought}
 use Rattle.document.proofs.fonts.font_from.Given as goal
 

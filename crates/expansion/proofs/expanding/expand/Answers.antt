@@ -1,6 +1,5 @@
-use Rattle.std.proofs.Common.{Ok, sym, subst, w64, SFits, rules}
+use Rattle.std.proofs.Common.{w64, SFits, rules}
 use Rattle.std.proofs.lemmas.Int.{to_z-of_z}
-use Rattle.shelf.specs.Answers.{Answered}
 use Rattle.expansion.proofs.Packets.{no-packet, no_width, run-well, run-refused}
 use Rattle.expansion.proofs.expanding.expand.Goals as goal
 

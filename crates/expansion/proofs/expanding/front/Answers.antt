@@ -1,4 +1,4 @@
-use Rattle.std.proofs.Common.{◌≡◌, ◌+◌, ◌≤◌, length, sym, refl, arith, rules}
+use Rattle.std.proofs.Common.{◌+◌, ◌≤◌, length, sym, rules}
 use Rattle.std.proofs.lemmas.List.{take_all}
 use Rattle.expansion.proofs.expanding.front.Goals as goal
 

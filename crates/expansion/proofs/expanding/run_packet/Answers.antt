@@ -1,8 +1,6 @@
-use Rattle.std.proofs.Common.{◌≡◌, sym, refl, ap, rules}
-use Rattle.machine.specs.Views.{view_of}
+use Rattle.std.proofs.Common.{rules}
 use Rattle.machine.proofs.Turning.{at-link}
 use Rattle.vf.specs.Fonts.{font_of}
-use Rattle.expansion.specs.Expanding.{start_at}
 use Rattle.expansion.proofs.Packets.{from_first, no-first}
 use Rattle.expansion.proofs.expanding.run_packet.Goals as goal
 

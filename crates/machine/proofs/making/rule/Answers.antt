@@ -1,7 +1,6 @@
-use Rattle.std.proofs.Common.{◌≡◌, sym, subst, w64, SFits, rules}
+use Rattle.std.proofs.Common.{sym, subst, w64, SFits, rules}
 use Rattle.std.proofs.lemmas.Int.{to_z-of_z}
 use Rattle.shelf.specs.Answers.{Answered}
-use Rattle.shelf.specs.Outcomes.{well}
 use Rattle.shelf.specs.Served.{by-fault, by-blank}
 use Rattle.machine.proofs.making.rule.Goals as goal
 

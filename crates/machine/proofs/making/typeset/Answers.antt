@@ -1,4 +1,4 @@
-use Rattle.std.proofs.Common.{◌≡◌, sym, ap, ◌∙◌}
+use Rattle.std.proofs.Common.{sym, ap, ◌∙◌}
 use Rattle.std.proofs.lemmas.Int.{to_z-of_z}
 use Rattle.shelf.specs.declared.refusals.Cause.TheVariants.{NoFont, NoCode}
 use Rattle.shelf.specs.Served.{by-fault}

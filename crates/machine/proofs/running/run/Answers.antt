@@ -1,4 +1,4 @@
-use Rattle.std.proofs.Common.{◌≡◌, ◌+◌, ◌≤◌, cond, [], length, sym, ap, ◌∙◌, rules}
+use Rattle.std.proofs.Common.{◌+◌, ◌≤◌, cond, [], length, ap, ◌∙◌, rules}
 use Rattle.std.proofs.lemmas.List.{take_rest}
 use Rattle.shelf.specs.Outcomes.{fault}
 use Rattle.shelf.specs.declared.refusals.Cause.TheVariants.{PastEnd}

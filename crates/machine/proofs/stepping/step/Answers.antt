@@ -1,4 +1,4 @@
-use Rattle.std.proofs.Common.{◌≡◌, sym, ap, ◌∙◌, w64, SFits, rules}
+use Rattle.std.proofs.Common.{ap, w64, SFits, rules}
 use Rattle.std.proofs.lemmas.Int.{to_z-of_z}
 use Rattle.commands.specs.Shapes.{plain}
 use Rattle.machine.specs.Views.{view_of}

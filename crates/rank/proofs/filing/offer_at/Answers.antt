@@ -1,4 +1,4 @@
-use Rattle.std.proofs.Common.{◌≡◌, sym, ap, ◌∙◌, rules}
+use Rattle.std.proofs.Common.{rules}
 use Rattle.std.proofs.lemmas.List.{get_or-map}
 use Rattle.rank.specs.Adding.{given_by}
 use Rattle.rank.proofs.filing.offer_at.Goals as goal

@@ -1,4 +1,4 @@
-use Rattle.std.proofs.Common.{◌≡◌, ◌+◌, ◌*◌, ◌<◌, ◌≤◌, ltb, get_or, arith}
+use Rattle.std.proofs.Common.{◌+◌, ◌*◌, ltb, get_or, arith}
 use Rattle.std.proofs.lemmas.Bool.{le-ltb, lt-ltb}
 use Rattle.tfm.proofs.Every.{every_more, every_stops}
 use Rattle.tfm.proofs.files.indexes_below.Goals as goal

@@ -1,4 +1,4 @@
-use Rattle.std.proofs.Common.{arith, rules}
+use Rattle.std.proofs.Common.{rules}
 use Rattle.tfm.proofs.Loads.{nothing_yet, one_more, refused, all_read}
 use Rattle.tfm.proofs.making.faces_of.Goals as goal
 

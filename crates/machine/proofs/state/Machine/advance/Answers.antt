@@ -1,6 +1,5 @@
-use Rattle.std.proofs.Common.{◌≡◌, sym, w64, SFits, rules}
+use Rattle.std.proofs.Common.{w64, SFits, rules}
 use Rattle.std.proofs.lemmas.Int.{to_z-of_z}
-use Rattle.shelf.specs.Outcomes.{well, fault}
 use Rattle.machine.specs.Steps.{advanced}
 use Rattle.machine.specs.Views.{view_of}
 use Rattle.machine.proofs.Onward.{advances, fails-on}

@@ -1,4 +1,4 @@
-use Rattle.std.proofs.Common.{◌≡◌, ◌<◌, length, vec_items, sym, refl, ap, ◌∙◌, subst, rules}
+use Rattle.std.proofs.Common.{◌<◌, length, vec_items, sym, refl, subst, rules}
 use Rattle.shelf.specs.Spelling.{spelled}
 use Rattle.vf.specs.Fonts.{font_of}
 use Rattle.rank.specs.Entries.{entries_of}

@@ -1,5 +1,5 @@
-use Rattle.std.proofs.Common.{◌≡◌, ◌<◌, ◌≤◌, min, map, length, get_or, vec_items, sym, refl, ap, ◌∙◌, subst, arith, rules}
-use Rattle.std.proofs.lemmas.List.{length-map, get_or-map}
+use Rattle.std.proofs.Common.{◌≡◌, ◌<◌, min, map, length, vec_items, refl, ap, ◌∙◌, arith}
+use Rattle.std.proofs.lemmas.List.{length-map}
 use Rattle.rank.specs.Adding.{given_by, added}
 use Rattle.rank.specs.Entries.{entries_of}
 use Rattle.rank.proofs.Filed.{none_yet, one_filed, all_filed}

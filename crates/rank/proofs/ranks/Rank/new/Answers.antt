@@ -1,5 +1,5 @@
-use Rattle.std.proofs.Common.{[], map, vec_items, sym, refl, subst}
-use Rattle.rank.specs.Entries.{entries_of, entry_of}
+use Rattle.std.proofs.Common.{vec_items, sym, refl, subst}
+use Rattle.rank.specs.Entries.{entries_of}
 use Rattle.rank.specs.Ranks.{RankOk}
 use Rattle.rank.proofs.Adds.{rank_none}
 use Rattle.rank.proofs.ranks.Rank.new.Goals as goal

@@ -1,4 +1,4 @@
-use Rattle.std.proofs.Common.{◌≡◌, ◌-◌, length, take, vec_items, ap, ◌∙◌, arith}
+use Rattle.std.proofs.Common.{◌-◌, length, take, vec_items, ap, ◌∙◌, arith}
 use Rattle.rank.specs.Named.{fitting-few}
 use Rattle.rank.proofs.ranks.Rank.own.Goals as goal
 

@@ -1,4 +1,4 @@
-use Rattle.std.proofs.Common.{◌≡◌, ◌+◌, ◌-◌, ◌<◌, ◌≤◌, ◌++◌, map, length, get_or, take, drop, Some, vec_items, sym, refl, ap, ◌∙◌, subst, w64, to_z, of_z, rules}
+use Rattle.std.proofs.Common.{◌≡◌, ◌+◌, ◌-◌, ◌<◌, ◌≤◌, map, length, get_or, take, drop, Some, vec_items, sym, ap, ◌∙◌, subst, w64, to_z, of_z, rules}
 use Rattle.std.proofs.lemmas.Int.{to_z-of_z}
 use Rattle.std.specs.List.{slice_get}
 use Rattle.shelf.specs.Answers.{Answered}
@@ -6,7 +6,7 @@ use Rattle.shelf.specs.Meaning.{started}
 use Rattle.shelf.specs.Served.{by-fault}
 use Rattle.vf.specs.Fonts.{font_of}
 use Rattle.expansion.specs.Expanding.{expanded}
-use Rattle.rank.specs.Entries.{entries_of, entry_of, entry_name}
+use Rattle.rank.specs.Entries.{entries_of, entry_of}
 use Rattle.rank.specs.Ranks.{fitting}
 use Rattle.rank.proofs.Calls.{called-below, called_above, fails-here, nth_map}
 use Rattle.rank.specs.Named.{in_all_lem, fits}

@@ -1,4 +1,4 @@
-use Rattle.std.proofs.Common.{vec_items, arith}
+use Rattle.std.proofs.Common.{vec_items}
 use Rattle.rank.specs.Named.{in_all_lem}
 use Rattle.rank.proofs.serving.RankShelf.count.Goals as goal
 

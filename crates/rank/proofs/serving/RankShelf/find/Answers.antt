@@ -1,4 +1,4 @@
-use Rattle.std.proofs.Common.{◌≡◌, ◌+◌, map, length, Some, None, vec_items, sym, ap, ◌∙◌}
+use Rattle.std.proofs.Common.{◌+◌, map, length, Some, None, vec_items, sym, ap, ◌∙◌}
 use Rattle.shelf.specs.Names.{found_in}
 use Rattle.rank.specs.Entries.{entries_of, entry_name}
 use Rattle.rank.specs.Ranks.{fitting}

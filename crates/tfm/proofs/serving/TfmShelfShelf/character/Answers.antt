@@ -1,4 +1,4 @@
-use Rattle.std.proofs.Common.{◌≡◌, vec_items, sym, ap, ◌∙◌, subst, w32, w64, SFits, rules}
+use Rattle.std.proofs.Common.{vec_items, sym, ap, ◌∙◌, subst, w32, w64, SFits, rules}
 use Rattle.std.proofs.lemmas.Int.{to_z-of_z}
 use Rattle.shelf.specs.Answers.{Answered}
 use Rattle.shelf.specs.declared.refusals.Cause.TheVariants.{NoCode}

@@ -1,6 +1,6 @@
-use Rattle.std.proofs.Common.{◌≡◌, Some, vec_items, sym, ap, ◌∙◌, rules}
+use Rattle.std.proofs.Common.{Some, vec_items, sym, ap, ◌∙◌, rules}
 use Rattle.std.specs.Option.{option_map}
-use Rattle.shelf.specs.Meaning.{Facts, facts_of}
+use Rattle.shelf.specs.Meaning.{facts_of}
 use Rattle.tfm.specs.Laws.{face-at, face-past}
 use Rattle.tfm.proofs.serving.TfmShelfShelf.face.Goals as goal
 
