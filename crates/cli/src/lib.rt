@@ -1,11 +1,11 @@
 // Chooses the command that the arguments ask for. The program's `main` calls `run` alone.
 #![tactic(auto)]
 
-mod commands;
+mod command_words;
 mod usage;
 
 use anyhow::anyhow;
-use commands::{Command, command_of};
+use command_words::{Command, command_of};
 use std::{env, io};
 use terminal::Failure;
 use usage::USAGE;

@@ -1,6 +1,6 @@
 -- The pages of the file, from the last one back. Assumes nothing.
 use Rattle.std.proofs.Common.{◌≡◌, ℕ, zero, suc, ◌+◌, ◌^◌, ◌<◌, ◌≤◌, true, ltb, leb, List, [], ◌∷◌, ◌++◌, length, get_or, drop, Some, None, refl, ap, ◌∙◌, subst, append_assoc, arith}
-use Rattle.std.specs.List.{AllByRecursion as All, slice_get}
+use Rattle.std.specs.List.{AllByRecursion, slice_get}
 use Rattle.std.proofs.lemmas.List.{drop_at}
 use Rattle.std.proofs.lemmas.Bool.{lt-ltb, le-leb, eq-eqb, and_from}
 use Rattle.numbers.specs.Bytes.{digits}
@@ -34,7 +34,7 @@ module _ (F : ℕ → Facts) where
 
   module _ (mag : ℕ) (s : List ℕ) where
     -- the newest page stands behind the others
-    pub page_stands : (p : Page) (ps : List Page) (rest : List ℕ) → All Counted ps → s ≡ body F mag (p ∷ ps) ++ rest
+    pub page_stands : (p : Page) (ps : List Page) (rest : List ℕ) → AllByRecursion Counted ps → s ≡ body F mag (p ∷ ps) ++ rest
         → (s ≡ body F mag ps ++ (page_bytes F (progress F ps) p ++ rest)) × (drop (progress F ps).used s ≡ page_bytes F (progress F ps) p ++ rest)
     unfolding body
     page_stands p ps rest counted e =
@@ -86,7 +86,7 @@ module _ (F : ℕ → Facts) where
     last_none = refl
 
     -- no pointer fails
-    pub chain_whole : (ps : List Page) (rest : List ℕ) (limit place : ℕ) → All Counted ps → s ≡ body F mag ps ++ rest → (progress F ps).used ≤ q → (progress F ps).used ≤ limit → (progress F ps).used < 2 ^ 32 → four s place ≡ (progress F ps).last → broken_from s q (length ps) limit place ≡ None
+    pub chain_whole : (ps : List Page) (rest : List ℕ) (limit place : ℕ) → AllByRecursion Counted ps → s ≡ body F mag ps ++ rest → (progress F ps).used ≤ q → (progress F ps).used ≤ limit → (progress F ps).used < 2 ^ 32 → four s place ≡ (progress F ps).last → broken_from s q (length ps) limit place ≡ None
     chain_whole [] rest limit place counted e h l small at = chain-ends limit place (at ∙ last_none)
     chain_whole (p ∷ ps) rest limit place counted e h l small at =
         let a = (progress F ps).used in
@@ -112,7 +112,7 @@ module _ (F : ℕ → Facts) where
     back_one k a b e = rw e
 
     -- the page that has j newer ones
-    pub page-back : (ps : List Page) (rest : List ℕ) (j : ℕ) → All Counted ps → s ≡ body F mag ps ++ rest → j < length ps → (progress F ps).used < 2 ^ 32 → page_before s j (progress F ps).last ≡ (progress F (drop (suc j) ps)).used
+    pub page-back : (ps : List Page) (rest : List ℕ) (j : ℕ) → AllByRecursion Counted ps → s ≡ body F mag ps ++ rest → j < length ps → (progress F ps).used < 2 ^ 32 → page_before s j (progress F ps).last ≡ (progress F (drop (suc j) ps)).used
     page-back [] rest j counted e h small = absurd (omega arith)
     page-back (p ∷ ps) rest zero counted e h small = ap (page_before s 0) (last-is p ps) ∙ back_none (progress F ps).used
     page-back (p ∷ ps) rest (suc j) counted e h small =
@@ -123,7 +123,7 @@ module _ (F : ℕ → Facts) where
         ∙ back_one j a (progress F ps).last (page_pointer s a (progress F ps) p rest counted.0 next.1 (last_fits ps (omega arith)))
         ∙ page-back ps (page_bytes F (progress F ps) p ++ rest) j counted.1 next.0 (omega arith) (omega arith)
 
-    pub page-at : (ps : List Page) (rest : List ℕ) (j : ℕ) (p : Page) → All Counted ps → s ≡ body F mag ps ++ rest → slice_get ps j ≡ Some p → (more : List ℕ) × (drop (progress F (drop (suc j) ps)).used s ≡ page_bytes F (progress F (drop (suc j) ps)) p ++ more)
+    pub page-at : (ps : List Page) (rest : List ℕ) (j : ℕ) (p : Page) → AllByRecursion Counted ps → s ≡ body F mag ps ++ rest → slice_get ps j ≡ Some p → (more : List ℕ) × (drop (progress F (drop (suc j) ps)).used s ≡ page_bytes F (progress F (drop (suc j) ps)) p ++ more)
     page-at [] rest j p counted e has = absurd (let z : ◌≡◌ {A = ℕ} 0 1 = cc in omega arith)
     page-at (x ∷ ps) rest zero p counted e has =
         let same : x ≡ p = cc in
@@ -131,7 +131,7 @@ module _ (F : ℕ → Facts) where
     page-at (x ∷ ps) rest (suc j) p counted e has = page-at ps (page_bytes F (progress F ps) x ++ rest) j p counted.1 (page_stands mag s x ps rest counted.1 e).0 has
 
   -- a page's pairs are among those of the whole
-  pub older_pairs : (m : Meaning) (ps : List Page) (j : ℕ) (p : Page) → All (GoodPage m) ps → slice_get ps j ≡ Some p → Grown (GoodPair m) (with_page F (progress F (drop (suc j) ps)) p).pairs (progress F ps).pairs
+  pub older_pairs : (m : Meaning) (ps : List Page) (j : ℕ) (p : Page) → AllByRecursion (GoodPage m) ps → slice_get ps j ≡ Some p → Grown (GoodPair m) (with_page F (progress F (drop (suc j) ps)) p).pairs (progress F ps).pairs
   unfolding progress
   older_pairs m [] j p good has = absurd (let z : ◌≡◌ {A = ℕ} 0 1 = cc in omega arith)
   older_pairs m (x ∷ ps) zero p good has =

@@ -1,6 +1,6 @@
 -- The definitions at the end of the file, walked over. Assumes nothing.
 use Rattle.std.proofs.Common.{◌≡◌, ℕ, zero, suc, ◌+◌, ◌-◌, ◌/◌, ◌<◌, ◌≤◌, Bool, true, false, ◌&&◌, eqb, ltb, List, [], ◌∷◌, ◌++◌, length, get_or, drop, Some, None, sym, refl, ap, ◌∙◌, subst, ap₂, arith, length-drop}
-use Rattle.std.specs.List.{AllByRecursion as All, slice_get}
+use Rattle.std.specs.List.{AllByRecursion, slice_get}
 use Rattle.std.proofs.lemmas.Bool.{lt-ltb, eq-eqb, ne_eqb, and_from, or_from}
 use Rattle.numbers.specs.Lengths.{good_size}
 use Rattle.shelf.specs.Laws.{Lawful}
@@ -79,7 +79,7 @@ module _ (m : Meaning) (law : Lawful m) (t : List ℕ) where
   no-fonts at n e = omega (arith, ap length e, length-drop at t)
 
   -- each definition is lawful
-  pub all_lawful : (ps : List Pair) (at n : ℕ) (ns : List ℕ) → All (GoodPair m) ps → n + length ps ≤ 64 → Below n ns → drop at t ≡ fonts_bytes F n ps → first_of (unlawful t) t at (length t - at) 0 ns ≡ None
+  pub all_lawful : (ps : List Pair) (at n : ℕ) (ns : List ℕ) → AllByRecursion (GoodPair m) ps → n + length ps ≤ 64 → Below n ns → drop at t ≡ fonts_bytes F n ps → first_of (unlawful t) t at (length t - at) 0 ns ≡ None
   all_lawful [] at n ns good few new e = sym (miss (unlawful t) t (length t) at ns (no-fonts at n e))
   all_lawful (p ∷ ps) at n ns good few new e =
       let f = F p.face in
@@ -92,7 +92,7 @@ module _ (m : Meaning) (law : Lawful m) (t : List ℕ) where
       ∙ all_lawful ps (at + (16 + length f.name)) (suc n) (n ∷ ns) good.1 (omega arith) (below_more n ns new) next.1
 
   -- the definition of a number is that of its pair
-  pub font-found : (ps : List Pair) (at n : ℕ) (ns : List ℕ) → All (GoodPair m) ps → n + length ps ≤ 64 → drop at t ≡ fonts_bytes F n ps → (i j : ℕ) (p : Pair) → i ≡ n + j → slice_get ps j ≡ Some p → defined_in t (first_of (λ k ms. defines t i k) t at (length t - at) 0 ns) ≡ Some (defined_by i p.size (F p.face))
+  pub font-found : (ps : List Pair) (at n : ℕ) (ns : List ℕ) → AllByRecursion (GoodPair m) ps → n + length ps ≤ 64 → drop at t ≡ fonts_bytes F n ps → (i j : ℕ) (p : Pair) → i ≡ n + j → slice_get ps j ≡ Some p → defined_in t (first_of (λ k ms. defines t i k) t at (length t - at) 0 ns) ≡ Some (defined_by i p.size (F p.face))
   font-found [] at n ns good few e i j p is has = absurd (let z : ◌≡◌ {A = ℕ} 0 1 = cc in omega arith)
   font-found (q ∷ ps) at n ns good few e i zero p is has =
       let same : q ≡ p = cc in

@@ -1,7 +1,7 @@
 -- What stands where in the closed file. Assumes nothing.
 use Rattle.std.proofs.Common.{◌≡◌, ℕ, zero, suc, ◌+◌, ◌<◌, ◌≤◌, List, [], ◌∷◌, ◌++◌, length, get_or, take, drop, replicate, sym, refl, ap, ◌∙◌, append_assoc, append-nil, arith, length-append}
 use lib.ListN.{length-replicate}
-use Rattle.std.specs.List.{AllByRecursion as All}
+use Rattle.std.specs.List.{AllByRecursion}
 use Rattle.std.proofs.lemmas.List.{drop_at, take_at, drop-take, get_or-drop, get_or-replicate}
 use Rattle.std.proofs.lemmas.Bool.{eq-eqb, ne_eqb}
 use Rattle.numbers.specs.Bytes.{digits}
@@ -43,7 +43,7 @@ bare_stop : (s : List ℕ) (k m : ℕ) → m ≡ suc k → (get_or s k 0 ≡ 223
 unfolding bare
 bare_stop s k m e h = rw (e, ne_eqb (get_or s k 0) 223 h)
 
-module _ (F : ℕ → Facts) (o : Opening) (ps : List Page) (counted : All Counted ps) where
+module _ (F : ℕ → Facts) (o : Opening) (ps : List Page) (counted : AllByRecursion Counted ps) where
   abbrev pub g : Progress
   g = progress F ps
 

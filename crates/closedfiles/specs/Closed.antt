@@ -1,6 +1,6 @@
 -- What the file that a copy closes to says: it is legal, and its pages are the pages that were written.
 use Rattle.std.specs.Prelude.{◌≡◌, ℕ, ◌+◌, ◌-◌, ◌^◌, ◌<◌, ◌≤◌, List, length, Some, Ok}
-use Rattle.std.specs.List.{AllByRecursion as All, slice_get}
+use Rattle.std.specs.List.{AllByRecursion, slice_get}
 use Rattle.shelf.specs.Alone.{faces_alone}
 use Rattle.shelf.specs.Laws.{Lawful}
 use Rattle.shelf.specs.Meaning.{Meaning, Facts}
@@ -16,8 +16,8 @@ use Rattle.readback.specs.Reading.{Counted, GoodPage}
 
 -- pages, the newest first, that a copy can have written and closed
 pub record Writable (m : Meaning) (o : Opening) (ps : List Page) : Type 0 where
-  pub counted : All Counted ps
-  pub good : All (GoodPage m) ps
+  pub counted : AllByRecursion Counted ps
+  pub good : AllByRecursion (GoodPage m) ps
   pub few-pairs : length (progress (faces_of m) ps).pairs ≤ 64
   pub few-pages : length ps < 2 ^ 16
   pub mag-least : 1 ≤ o.mag

@@ -1,6 +1,6 @@
 -- Whatever is run over a lawful shelf makes good marks, and its faults have good chains. Assumes nothing.
 use Rattle.std.proofs.Common.{◌≡◌, ℕ, zero, suc, ◌-◌, ◌^◌, ◌<◌, ◌≤◌, Bool, true, false, cond, ◌&&◌, eqb, ltb, List, [], ◌∷◌, ◌++◌, length, ℤ, pos, negsuc, Some, None, Ok, Err, Option, Result, sym, refl, subst, arith, length-append}
-use Rattle.std.specs.List.{AllByRecursion as All}
+use Rattle.std.specs.List.{AllByRecursion}
 use Rattle.std.proofs.ByRecursion.{All-append, All-push, All-weaker}
 use Rattle.std.proofs.lemmas.Bool.{ltb-true, and_parts}
 use Rattle.numbers.specs.Lengths.{in_range, moved_to}
@@ -24,10 +24,10 @@ use Rattle.machine.specs.Runs.{turned, finished, continued, run}
 
 -- a value, or a short chain of links below a number of fonts
 abbrev GoodChain : ℕ → List Link → Type 0
-GoodChain fonts ch = (length ch ≤ 65535) × All (λ l. l.font < fonts) ch
+GoodChain fonts ch = (length ch ≤ 65535) × AllByRecursion (λ l. l.font < fonts) ch
 
 pub record Good (W : Type 0) (fs : List FaceMeaning) (fonts : ℕ) (o : Outcome W) : Type 0 where
-  pub marks : All (GoodMark fs) o.marks
+  pub marks : AllByRecursion (GoodMark fs) o.marks
   pub chain : GoodChain fonts (chain_of o.ending)
 
 -- endings without a chain

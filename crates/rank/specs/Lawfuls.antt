@@ -7,7 +7,7 @@ use Rattle.std.proofs.lemmas.Int.{ints}
 use Rattle.std.proofs.ByRecursion.{All-append, All-weaker}
 use Rattle.std.proofs.lemmas.List.{length-map, length-take-le}
 use Rattle.std.proofs.lemmas.Bool.{cond-true, lt-ltb, ltb-true}
-use Rattle.std.specs.List.{AllByRecursion as All, slice_get}
+use Rattle.std.specs.List.{AllByRecursion, slice_get}
 use Rattle.numbers.specs.FixWords.{scaled}
 use Rattle.numbers.specs.Lengths.{good_size, in_range}
 use Rattle.numbers.proofs.Scales.{scaled_bound}
@@ -34,7 +34,7 @@ use Rattle.rank.specs.Entries.{Entry, entry_name}
 use Rattle.rank.specs.Ranks.{rank_meaning, file_outcome}
 use Rattle.rank.specs.Named.{found-append, joined}
 
-pub good-font-names : (fs : List Font) → All GoodName (map font_name fs)
+pub good-font-names : (fs : List Font) → AllByRecursion GoodName (map font_name fs)
 good-font-names [] = tt
 good-font-names (f ∷ fs) = let n = length-take-le f.name.count f.name.bytes (omega arith) in ((omega (arith, n), omega (arith, n)), good-font-names fs)
 
@@ -52,11 +52,11 @@ module _ (m : Meaning) (law : Lawful m) (fonts : ℕ) (few : length m.names ≤ 
   -- its width is that of a scaled fix_word
   ending : (o : Outcome (Unit {0})) (w : ℤ) (n : ℕ) → scaled c.size n ≡ Some w → Good (Unit {0}) m.faces fonts o → (x : Ending (Unit {0})) → o.ending ≡ x → GoodEnding fonts (onward o.marks x (λ u. ends [] (well w))).ending
   ending o w n e g (well u) q = let d = scaled_bound c.size n w e in (d.0, omega (arith, ints, d.1))
-  ending o w n e g (fault k ch) q = subst (λ x. (length (chain_of x) ≤ 65535) × All (λ l. l.font < fonts) (chain_of x)) q g.chain
+  ending o w n e g (fault k ch) q = subst (λ x. (length (chain_of x) ≤ 65535) × AllByRecursion (λ l. l.font < fonts) (chain_of x)) q g.chain
 
   -- marks of faces below, and an ending of this many fonts
   record Well (o : Outcome ℤ) : Type 0 where
-    marks : All (GoodMark m.faces) o.marks
+    marks : AllByRecursion (GoodMark m.faces) o.marks
     ending : GoodEnding fonts o.ending
 
   fails : (k : Cause) → Well (faulty k)
@@ -81,7 +81,7 @@ module _ (m : Meaning) (law : Lawful m) (fonts : ℕ) (few : length m.names ≤ 
   good-file None = fails NoFont
   good-file (Some e) = good-expanded e.font e.file
 
-module _ (m : Meaning) (es : List Entry) (law : Lawful m) (named : All GoodName (map entry_name es)) (few : length m.names + length es ≤ 4096) where
+module _ (m : Meaning) (es : List Entry) (law : Lawful m) (named : AllByRecursion GoodName (map entry_name es)) (few : length m.names + length es ≤ 4096) where
   long : length (m.names ++ map entry_name es) ≡ length m.names + length es
   long = omega (arith, length-append m.names (map entry_name es), length-map es entry_name)
 

@@ -3,7 +3,7 @@ ghost use Rattle.std.specs.Prelude.{◌≡◌, ◌+◌, ◌-◌, ◌≤◌, ◌+
 ghost use Rattle.std.proofs.Common.{sym, subst};
 ghost use Rattle.rank.specs.Entries.{entries_of, entry_name};
 ghost use Rattle.rank.specs.Ranks.{rank_of, RankOk, fitting};
-ghost use Rattle.std.specs.List.{AllByRecursion as All};
+ghost use Rattle.std.specs.List.{AllByRecursion};
 ghost use Rattle.shelf.specs.Names.{GoodName, Distinct};
 ghost use Rattle.rank.specs.Lawfuls.{rank_lawful, good-font-names};
 ghost use Rattle.rank.specs.Named.{fitting-few, fitting-names, fitting-all};
@@ -42,7 +42,7 @@ impl<S: Shelf> Shelf for Rank<S> {
         let law = S.Shelf.lawful s.below in
         let bs = s.bytes.items in
         let fs = s.fonts.items in
-        rank_lawful m (fitting m (entries_of bs fs)) law (subst (All GoodName) (sym (fitting-names m bs fs)) (good-font-names (take (4096 - length m.names) fs))) (fitting-few (length m.names) (entries_of bs fs) law.few) };
+        rank_lawful m (fitting m (entries_of bs fs)) law (subst (AllByRecursion GoodName) (sym (fitting-names m bs fs)) (good-font-names (take (4096 - length m.names) fs))) (fitting-few (length m.names) (entries_of bs fs) law.few) };
 
     ghost distinct = { λ s u.
         let m = S.Shelf.means s.below in

@@ -2,7 +2,7 @@
 use Rattle.std.proofs.Common.{◌≡◌, ℕ, ◌+◌, ◌*◌, ◌^◌, ◌<◌, ◌≤◌, Bool, true, false, cond, T, eqb, ltb, List, [], ◌∷◌, ◌++◌, map, length, drop, ℤ, pos, negsuc, ◌+ℤ◌, ◌-ℤ◌, nat_abs, ◌≤ℤ◌, is_some, Some, None, Ok, Err, Option, Result, sym, refl, ap, ◌∙◌, subst, ap₂, arith}
 use lib.Signed.{le_z, le_z_yes}
 use Rattle.std.specs.Option.{option_map}
-use Rattle.std.specs.List.{AllByRecursion as All, slice_get}
+use Rattle.std.specs.List.{AllByRecursion, slice_get}
 use Rattle.std.proofs.ByRecursion.{All-get_or}
 use Rattle.std.proofs.lemmas.Int.{ints}
 use Rattle.std.proofs.lemmas.Bool.{eqb-true, lt-ltb, ltb-true, and_parts}
@@ -268,7 +268,7 @@ module _ (u : World) (s : List ℕ) where
           (then_leads u s across under (pen_state u pen) (placed (mark_h x) pen.v o) (placed (mark_h x) (mark_v x) o) [] [] (right-leads pen.h pen.v (mark_h x) o p at.0) (down-leads (mark_h x) pen.v (mark_v x) o q at.1))
           (shape-leads pen x good keeps)
 
-      pub marks_lead : (pen : Pen) (ms : List Mark) → in_range pen.h ≡ true → in_range pen.v ≡ true → All (GoodMark m.faces) ms → (pen_after_all F pen ms).pairs ≡ ps → Leads u s (marks_bytes F pen ms) (pen_state u pen) ms (pen_state u (pen_after_all F pen ms))
+      pub marks_lead : (pen : Pen) (ms : List Mark) → in_range pen.h ≡ true → in_range pen.v ≡ true → AllByRecursion (GoodMark m.faces) ms → (pen_after_all F pen ms).pairs ≡ ps → Leads u s (marks_bytes F pen ms) (pen_state u pen) ms (pen_state u (pen_after_all F pen ms))
       unfolding marks_bytes pen_after_all
       marks_lead pen [] p q good all = nothing-leads u s (pen_state u pen)
       marks_lead pen (x ∷ ms) p q good all =
@@ -280,5 +280,5 @@ module _ (u : World) (s : List ℕ) where
           (marks_lead next ms at.0 at.1 good.1 all)
 
       -- the marks up to a page's 140
-      pub marks-read : (pen : Pen) (ms : List Mark) → in_range pen.h ≡ true → in_range pen.v ≡ true → All (GoodMark m.faces) ms → (pen_after_all F pen ms).pairs ≡ ps → (at : ℕ) (rest : List ℕ) → drop at s ≡ marks_bytes F pen ms ++ (140 ∷ rest) → run_from u s at (pen_state u pen) ≡ ends ms (well tt)
+      pub marks-read : (pen : Pen) (ms : List Mark) → in_range pen.h ≡ true → in_range pen.v ≡ true → AllByRecursion (GoodMark m.faces) ms → (pen_after_all F pen ms).pairs ≡ ps → (at : ℕ) (rest : List ℕ) → drop at s ≡ marks_bytes F pen ms ++ (140 ∷ rest) → run_from u s at (pen_state u pen) ≡ ends ms (well tt)
       marks-read pen ms p q good all at rest e = end-leads u s (marks_bytes F pen ms) (pen_state u pen) ms (pen_state u (pen_after_all F pen ms)) (marks_lead pen ms p q good all) on.page refl at rest e

@@ -1,6 +1,6 @@
 -- Pages that were written: how long they are, which pairs they bring, and that they read back. Assumes nothing.
 use Rattle.std.proofs.Common.{◌≡◌, ℕ, ◌+◌, ◌<◌, ◌≤◌, List, [], ◌∷◌, ◌++◌, length, drop, refl, ap, ◌∙◌, append_assoc, arith, length-append}
-use Rattle.std.specs.List.{AllByRecursion as All}
+use Rattle.std.specs.List.{AllByRecursion}
 use Rattle.std.proofs.ByRecursion.{All-weaker}
 use Rattle.numbers.specs.Bytes.{digits}
 use Rattle.shelf.specs.Laws.{Lawful}
@@ -27,7 +27,7 @@ module _ (F : ℕ → Facts) where
   unfolding with_page
   page-used g p = omega (arith, at_most F (page_pen g) p.marks)
 
-  pub length-body : (mag : ℕ) (ps : List Page) → All Counted ps → length (body F mag ps) ≡ (progress F ps).used
+  pub length-body : (mag : ℕ) (ps : List Page) → AllByRecursion Counted ps → length (body F mag ps) ≡ (progress F ps).used
   unfolding body progress front_bytes
   length-body mag [] counted = refl
   length-body mag (p ∷ ps) counted =
@@ -55,14 +55,14 @@ module _ (F : ℕ → Facts) where
   unfolding with_page
   page-pairs m g p good = marks-pairs F m (page_pen g) p.marks good
 
-  pub progress-pairs : (m : Meaning) (ps : List Page) → All (GoodPage m) ps → All (GoodPair m) (progress F ps).pairs
+  pub progress-pairs : (m : Meaning) (ps : List Page) → AllByRecursion (GoodPage m) ps → AllByRecursion (GoodPair m) (progress F ps).pairs
   unfolding progress
   progress-pairs m [] good = tt
   progress-pairs m (p ∷ ps) good =
       grown_all (GoodPair m) (progress F ps).pairs (with_page F (progress F ps) p).pairs (page-pairs m (progress F ps) p good.0) (progress-pairs m ps good.1)
 
   -- every pair is defined in the pages
-  pub progress_places : (ps : List Page) → All (λ q. q.place < (progress F ps).used) (progress F ps).pairs
+  pub progress_places : (ps : List Page) → AllByRecursion (λ q. q.place < (progress F ps).used) (progress F ps).pairs
   unfolding progress
   progress_places [] = tt
   progress_places (p ∷ ps) =

@@ -1,6 +1,6 @@
 -- The pairs of a copy as it grows: each number keeps its pair, and each new pair is a good one of the bytes written. Assumes nothing.
 use Rattle.std.proofs.Common.{◌≡◌, ℕ, zero, suc, ◌+◌, ◌<◌, ◌≤◌, Bool, true, eqb, List, [], ◌∷◌, ◌++◌, length, get_or, is_some, Some, None, Option, sym, refl, ap, ◌∙◌, subst, append_assoc, append-nil, arith, length-append}
-use Rattle.std.specs.List.{AllByRecursion as All, slice_get}
+use Rattle.std.specs.List.{AllByRecursion, slice_get}
 use Rattle.std.proofs.ByRecursion.{All-append, All-weaker}
 use Rattle.std.proofs.lemmas.Option.{slice_get-get_or}
 use Rattle.std.proofs.lemmas.Bool.{eqb-true, and_parts}
@@ -31,7 +31,7 @@ nth_within [] i x e = absurd (let z : ◌≡◌ {A = ℕ} 0 1 = cc in omega arit
 nth_within (y ∷ xs) zero x e = omega arith
 nth_within (y ∷ xs) (suc i) x e = let r = nth_within xs i x e in omega arith
 
-pub all_nth : {X : Type 0} (P : X → Type 0) (xs : List X) (i : ℕ) (x : X) → All P xs → slice_get xs i ≡ Some x → P x
+pub all_nth : {X : Type 0} (P : X → Type 0) (xs : List X) (i : ℕ) (x : X) → AllByRecursion P xs → slice_get xs i ≡ Some x → P x
 all_nth P [] i x a e = absurd (let z : ◌≡◌ {A = ℕ} 0 1 = cc in omega arith)
 all_nth P (y ∷ xs) zero x a e = let q : y ≡ x = cc in subst P q a.0
 all_nth P (y ∷ xs) (suc i) x a e = all_nth P xs i x a.1 e
@@ -68,7 +68,7 @@ alike_font ps n face size a =
 pub record Grown (P : Pair → Type 0) (ps qs : List Pair) : Type 0 where
   pub more : List Pair
   pub is : qs ≡ ps ++ more
-  pub each : All P more
+  pub each : AllByRecursion P more
 
 pub grown_none : (P : Pair → Type 0) (ps : List Pair) → Grown P ps ps
 grown_none P ps = record { more = []; is = sym (append-nil ps); each = tt }
@@ -90,8 +90,8 @@ grown_keeps P ps qs a i p e = ap (λ xs. slice_get xs i) a.is ∙ nth_front ps a
 pub grown_length : (P : Pair → Type 0) (ps qs : List Pair) → Grown P ps qs → length ps ≤ length qs
 grown_length P ps qs a = omega (arith, ap length a.is, length-append ps a.more)
 
-pub grown_all : (P : Pair → Type 0) (ps qs : List Pair) → Grown P ps qs → All P ps → All P qs
-grown_all P ps qs a b = subst (All P) (sym a.is) (All-append P ps a.more b a.each)
+pub grown_all : (P : Pair → Type 0) (ps qs : List Pair) → Grown P ps qs → AllByRecursion P ps → AllByRecursion P qs
+grown_all P ps qs a b = subst (AllByRecursion P) (sym a.is) (All-append P ps a.more b a.each)
 
 entered_grown : (P : Pair → Type 0) (ps : List Pair) (o : Option ℕ) (p : Pair) → P p → Grown P ps (entered ps o p)
 entered_grown P ps (Some n) p h = grown_none P ps
@@ -156,7 +156,7 @@ module _ (F : ℕ → Facts) where
       entered_grown (GoodPair m) pen.pairs (pair_by pen.pairs face size) _ (good.2, face-is_there (slice_get m.faces face) size code good.4)
 
   -- and is good, as the marks are
-  pub marks-pairs : (m : Meaning) (pen : Pen) (ms : List Mark) → All (GoodMark m.faces) ms → Grown (GoodPair m) pen.pairs (pen_after_all F pen ms).pairs
+  pub marks-pairs : (m : Meaning) (pen : Pen) (ms : List Mark) → AllByRecursion (GoodMark m.faces) ms → Grown (GoodPair m) pen.pairs (pen_after_all F pen ms).pairs
   unfolding pen_after_all
   marks-pairs m pen [] good = grown_none (GoodPair m) pen.pairs
   marks-pairs m pen (x ∷ ms) good =

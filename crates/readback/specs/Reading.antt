@@ -1,6 +1,6 @@
 -- What a page runs over when a copy of it is read, and that a page which was written reads back as its marks.
 use Rattle.std.specs.Prelude.{◌≡◌, ℕ, ◌+◌, ◌≤◌, true, List, [], ◌++◌, length, drop, ℤ, pos, Some, None, Ok, Option}
-use Rattle.std.specs.List.{AllByRecursion as All, slice_get}
+use Rattle.std.specs.List.{AllByRecursion, slice_get}
 use Rattle.shelf.specs.Alone.{faces_alone}
 use Rattle.shelf.specs.Laws.{GoodMark, Lawful}
 use Rattle.shelf.specs.Meaning.{Meaning}
@@ -37,7 +37,7 @@ Counted p = length p.counts ≡ 40
 
 -- the marks are marks of the shelf
 abbrev pub GoodPage : Meaning → Page → Type 0
-GoodPage m p = All (GoodMark m.faces) p.marks
+GoodPage m p = AllByRecursion (GoodMark m.faces) p.marks
 
 -- the bytes of a page that was written, wherever they stand, run to the page's marks and end well
 abbrev pub PagesReadBack : Type 0

@@ -1,6 +1,6 @@
 -- What holds of every shelf.
 use Rattle.std.specs.Prelude.{◌≡◌, ℕ, ◌^◌, ◌<◌, ◌≤◌, true, List, length, ℤ, pos, negsuc, ◌≤ℤ◌, is_some, Some}
-use Rattle.std.specs.List.{AllByRecursion as All, slice_get}
+use Rattle.std.specs.List.{AllByRecursion, slice_get}
 use Rattle.numbers.specs.Lengths.{good_size, in_range}
 use Rattle.shelf.specs.declared.marks.Mark.{Mark}
 use Rattle.shelf.specs.declared.marks.Mark.TheVariants.{Glyph, Rule}
@@ -16,10 +16,10 @@ GoodMark fs (Rule height width h v) = (in_range h ≡ true) × (in_range v ≡ t
 -- a width within 2^31 either way, or a chain of at most 65,535 links, all of fonts of the shelf
 abbrev pub GoodEnding : ℕ → Ending ℤ → Type 0
 GoodEnding fonts (well w) = (negsuc 2147483647 ≤ℤ w) × (w ≤ℤ pos 2147483648)
-GoodEnding fonts (fault k ch) = (length ch ≤ 65535) × All (λ l. l.font < fonts) ch
+GoodEnding fonts (fault k ch) = (length ch ≤ 65535) × AllByRecursion (λ l. l.font < fonts) ch
 
 pub record GoodOutcome (m : Meaning) (o : Outcome ℤ) : Type 0 where
-  pub good-marks : All (GoodMark m.faces) o.marks
+  pub good-marks : AllByRecursion (GoodMark m.faces) o.marks
   pub good-ending : GoodEnding (length m.names) o.ending
 
 -- a check sum of four bytes, a design size of 1 to 2,048 points in 2^-20 points
@@ -37,7 +37,7 @@ pub record GoodFace (m : Meaning) (k : ℕ) (f : FaceMeaning) : Type 0 where
 
 pub record Lawful (m : Meaning) : Type 0 where
   pub few : length m.names ≤ 4096
-  pub good-names : All GoodName m.names
+  pub good-names : AllByRecursion GoodName m.names
   pub few-faces : length m.faces ≤ length m.names
   pub unlike-faces : (i j : ℕ) (f g : FaceMeaning) → slice_get m.faces i ≡ Some f → slice_get m.faces j ≡ Some g → f.facts.name ≡ g.facts.name → i ≡ j
   pub good-faces : (k : ℕ) (f : FaceMeaning) → slice_get m.faces k ≡ Some f → GoodFace m k f

@@ -4,7 +4,7 @@ use Rattle.std.proofs.Common.{sym, ap, ◌∙◌, subst, arith}
 use Rattle.std.proofs.lemmas.List.{length-map, length-take-le}
 use Rattle.std.proofs.lemmas.Int.{ints}
 use Rattle.std.proofs.lemmas.Bool.{ltb-true, and_parts}
-use Rattle.std.specs.List.{AllByRecursion as All, slice_get}
+use Rattle.std.specs.List.{AllByRecursion, slice_get}
 use Rattle.numbers.specs.Bytes.{number_at}
 use Rattle.numbers.specs.FixWords.{scaled}
 use Rattle.numbers.specs.Lengths.{good_size, in_range}
@@ -56,7 +56,7 @@ wide bytes o size code w e = by (nat_le o.first code && nat_lt code (o.first + o
 spelled-length : (f : TfmFace) → length (spelled f.name) ≡ f.name.count
 spelled-length f = length-take-le f.name.count f.name.bytes (omega arith)
 
-good-names : (fs : List TfmFace) → All GoodName (face_names fs)
+good-names : (fs : List TfmFace) → AllByRecursion GoodName (face_names fs)
 good-names [] = tt
 good-names (f ∷ fs) = let n = spelled-length f in ((omega (arith, n), omega (arith, n)), good-names fs)
 
