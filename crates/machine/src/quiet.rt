@@ -19,7 +19,7 @@ pub(crate) fn obey<S: Shelf, B: Body>(
     command: Command,
     m: &mut Machine,
 ) -> Result<bool, Cause>
-    ensures { ends_in result (view_of m.new) ≡ silently (record { below = S.means below.entry.now; measure = B.measures body.now; choose = B.chooses body.now (S.means below.entry.now).names; page = B.pages body.now; link_at = B.links body.now }) (plain command.entry) (view_of m.old) }
+    ensures { ends_in result (view_of m.new) ≡ silently (record { below = S.means below.now; measure = B.measures body.now; choose = B.chooses body.now (S.means below.now).names; page = B.pages body.now; link_at = B.links body.now }) (plain command.entry) (view_of m.old) }
 {
     match command {
         Command::Nop | Command::Xxx => Ok(true),

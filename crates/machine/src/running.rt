@@ -25,7 +25,7 @@ pub fn run<S: Shelf, B: Body>(
     chain: &mut [Link],
     marks: &mut [Mark],
 ) -> Result<usize, Refusal>
-    ensures { Answered (run_from (record { below = S.means below.entry.now; measure = B.measures body.now; choose = B.chooses body.now (S.means below.entry.now).names; page = B.pages body.now; link_at = B.links body.now }) bytes.now start (view_of m.old)) chain.old chain.new marks.old marks.new (counted result) }
+    ensures { Answered (run_from (record { below = S.means below.now; measure = B.measures body.now; choose = B.chooses body.now (S.means below.now).names; page = B.pages body.now; link_at = B.links body.now }) bytes.now start (view_of m.old)) chain.old chain.new marks.old marks.new (counted result) }
 {
     let mut at = start;
     let mut used = 0;
@@ -58,7 +58,7 @@ fn turn<S: Shelf, B: Body>(
     chain: &mut [Link],
     marks: &mut [Mark],
 ) -> Result<Turn, Refusal>
-    ensures is { Answered (turned (record { below = S.means below.entry.now; measure = B.measures body.now; choose = B.chooses body.now (S.means below.entry.now).names; page = B.pages body.now; link_at = B.links body.now }) at (command_at bytes.now at) (view_of m.old)) chain.old chain.new marks.old marks.new (turned_by result (view_of m.new)) }
+    ensures is { Answered (turned (record { below = S.means below.now; measure = B.measures body.now; choose = B.chooses body.now (S.means below.now).names; page = B.pages body.now; link_at = B.links body.now }) at (command_at bytes.now at) (view_of m.old)) chain.old chain.new marks.old marks.new (turned_by result (view_of m.new)) }
     ensures within { IfOk result (λ t. (0 < t.length) × (at + t.length ≤ length bytes.now)) }
 {
     let Some((command, length)) = command_at(bytes, at) else {

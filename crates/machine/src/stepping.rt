@@ -25,7 +25,7 @@ pub(crate) fn step<S: Shelf, B: Body>(
     chain: &mut [Link],
     marks: &mut [Mark],
 ) -> Result<(usize, bool), Refusal>
-    ensures { Answered (exec (record { below = S.means below.entry.now; measure = B.measures body.now; choose = B.chooses body.now (S.means below.entry.now).names; page = B.pages body.now; link_at = B.links body.now }) (plain command.entry) (view_of m.old)) chain.old chain.new marks.old marks.new (stepped result (view_of m.new)) }
+    ensures { Answered (exec (record { below = S.means below.now; measure = B.measures body.now; choose = B.chooses body.now (S.means below.now).names; page = B.pages body.now; link_at = B.links body.now }) (plain command.entry) (view_of m.old)) chain.old chain.new marks.old marks.new (stepped result (view_of m.new)) }
 {
     match command {
         Command::Set { code } => {

@@ -43,6 +43,10 @@ rank_push m es es' e h none p ok =
       unlike = subst Distinct (sym q) (apart_distinct ((m.names ++ map entry_name es) ++ e.name ∷ []) (apart_push (m.names ++ map entry_name es) e.name (distinct_apart (m.names ++ map entry_name es) ok.unlike) free));
     })
 
+-- the same where a rank is told from the shelf below it, which stays
+pub rank_pushed : {S : Type 0} (means : S → Meaning) (b b' : S) (es es' : List Entry) (e : Entry) → length (rank_of (means b) es).names < 4096 → found_in (rank_of (means b) es).names e.name ≡ None → b' ≡ b → es' ≡ es ++ e ∷ [] → RankOk (means b) es → RankOk (means b') es'
+rank_pushed means b b' es es' e h none same p ok = subst (λ x. RankOk (means x) es') (sym same) (rank_push (means b) es es' e h none p ok)
+
 name-none : (b : Bool) (x : List ℕ) → None ≡ cond b (Some x) None → b ≡ false
 name-none false x e = refl
 name-none true x e = absurd (let z : ◌≡◌ {A = ℕ} 0 1 = cc in omega arith)

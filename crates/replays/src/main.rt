@@ -1,6 +1,11 @@
-// The program: what it does is all in the library `cli`.
+// The program: what it does is all in the library `cli`, which has told of a failure.
 #![tactic(auto)]
 
-fn main(rt: HostRuntime) -> anyhow::Result<()> {
-    cli::run(&rt)
+use std::process::ExitCode;
+
+fn main(rt: HostRuntime) -> ExitCode {
+    match cli::run(&rt) {
+        Ok(()) => ExitCode::SUCCESS,
+        Err(_) => ExitCode::FAILURE,
+    }
 }
