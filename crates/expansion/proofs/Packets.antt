@@ -1,5 +1,5 @@
 -- A packet's run and its character, as their calls answer them. Assumes nothing.
-use Rattle.std.proofs.Common.{◌≡◌, ℕ, ◌+◌, List, [], get_or, take, ℤ, Some, None, Ok, Err, Option, Result, refl, subst}
+use Rattle.std.proofs.Common.{◌≡◌, ℕ, ◌+◌, List, [], get_or, take, ℤ, Some, None, Ok, Err, Option, Result, sym, refl, subst}
 use Rattle.numbers.specs.FixWords.{scaled}
 use Rattle.shelf.specs.Answers.{Answered}
 use Rattle.shelf.specs.Meaning.{Meaning}
@@ -61,10 +61,12 @@ module _ (m : Meaning) (f : VfFont) (file : List ℕ) (c : Character) where
           subst (λ x. Answered (expanded_by m f file c x) chain chain' marks marks' r) is
           (subst (λ x. Answered (wide_run m f file c p x) chain chain' marks marks' r) wide a)
 
-      pub run-well : (n : ℕ) → Answered (packet_run m f file c p) chain chain' marks marks' (Ok (n, tt)) → Answered (expanded m f file c) chain chain' marks marks' (Ok (n, width))
-      run-well n a =
+      -- the width that is answered is that of the packet
+      pub run-well : (n : ℕ) (w : ℤ) → w ≡ width → Answered (packet_run m f file c p) chain chain' marks marks' (Ok (n, tt)) → Answered (expanded m f file c) chain chain' marks marks' (Ok (n, w))
+      run-well n w e a =
           let o = packet_run m f file c p in
-          as_wide (Ok (n, width)) (then_silent o.marks o.ending (λ u. ends [] (well width)) chain chain' marks marks' n tt (well width) a refl)
+          subst (λ (x : ℤ). Answered (expanded m f file c) chain chain' marks marks' (Ok (n, x))) (sym e)
+          (as_wide (Ok (n, width)) (then_silent o.marks o.ending (λ u. ends [] (well width)) chain chain' marks marks' n tt (well width) a refl))
 
       pub run-refused : (e : Refusal) → Answered (packet_run m f file c p) chain chain' marks marks' (Err e) → Answered (expanded m f file c) chain chain' marks marks' (Err e)
       run-refused e a =

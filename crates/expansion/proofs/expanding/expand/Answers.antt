@@ -12,7 +12,7 @@ returns-in_default-scale g c = no_width _ _ _ _ _ c.in-Some.ensures _ _ c.in_def
 pub returns-in-Ok : goal.returns-in-Ok
 returns-in-Ok g c =
     let fits : SFits w64 c.in-Some-scale.width = search rules in
-    simp (to_z-of_z, fits) (run-well _ _ _ _ _ c.in-Some.ensures _ c.in-Some-scale.ensures.value _ _ _ _ _ c.in-Ok.ensures)
+    run-well _ _ _ _ _ c.in-Some.ensures _ c.in-Some-scale.ensures.value _ _ _ _ _ _ (to_z-of_z w64 c.in-Some-scale.width fits) c.in-Ok.ensures
 
 pub returns-in-Err : goal.returns-in-Err
 returns-in-Err g c = run-refused _ _ _ _ _ c.in-Some.ensures _ c.in-Some-scale.ensures.value _ _ _ _ _ c.in-Err.ensures
