@@ -1,5 +1,5 @@
 -- The bytes of a number, and the number in those bytes: the round trip, over the width. Assumes nothing.
-use Rattle.std.proofs.Common.{◌≡◌, ℕ, zero, suc, ◌+◌, ◌-◌, ◌*◌, ◌/◌, ◌%◌, ◌^◌, ◌<◌, ◌≤◌, true, List, [], ◌∷◌, ◌++◌, length, get_or, drop, ℤ, pos, negsuc, sym, refl, ap, ◌∙◌, mod-eq_of_lt, mul_assoc, pow-suc, zero-add, arith, length-append, rules}
+use Rattle.std.proofs.Common.{◌≡◌, ℕ, zero, suc, ◌+◌, ◌-◌, ◌*◌, ◌/◌, ◌%◌, ◌^◌, ◌<◌, ◌≤◌, true, List, [], ◌∷◌, ◌++◌, length, get_or, drop, ℤ, pos, negsuc, sym, refl, ap, ◌∙◌, mod-eq_of_lt, mul_assoc, pow-suc, zero-add, add-one, arith, length-append, rules}
 use native.Mathlib.Nat.{pow-le-pow_right}
 use lib.Seq.{paste}
 use Rattle.std.proofs.lemmas.List.{get_or_append_left, get_or_push, places}
@@ -14,6 +14,18 @@ pow_above i =
     let z : 0 ≤ i = omega arith in
     let top : 256 ^ 0 ≤ 256 ^ i = pow-le-pow_right base z in
     omega arith
+
+-- one byte more: the number fits, and stays below the power
+pub pushed : (n b i : ℕ) → n < 256 ^ i → b < 256 → i < 4 → (n * 256 + b < 2 ^ 32) × (n * 256 + b < 256 ^ (i + 1))
+pushed n b i h k l =
+    let base : 0 < 256 = omega arith in
+    let z : i ≤ 3 = omega arith in
+    let top : 256 ^ i ≤ 256 ^ 3 = pow-le-pow_right base z in
+    let up : 256 ^ (i + 1) ≡ 256 ^ i * 256 = rw add-one (pow-suc 256 i) in
+    (omega arith, omega arith)
+
+pub number-push : (s : List ℕ) (p i n b : ℕ) → n ≡ number s p i → b ≡ get_or s (p + i) 0 → n * 256 + b ≡ number s p (i + 1)
+number-push s p i n b e f = rw add-one (cc)
 
 pub length_digits : (w n : ℕ) → length (digits w n) ≡ w
 length_digits zero n = refl

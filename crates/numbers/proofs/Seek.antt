@@ -1,6 +1,7 @@
 -- The first entry that has a key, step by step through a table. Assumes nothing.
 use Rattle.std.proofs.Common.{◌≡◌, ℕ, zero, suc, ◌+◌, ◌<◌, ◌≤◌, Bool, true, false, cond, List, [], ◌∷◌, ◌++◌, map, length, get_or, take, drop, Some, None, Option, sym, refl, ap, ◌∙◌, arith, take-append-drop}
-use Rattle.std.specs.Option.{option_map}
+use Rattle.std.specs.Option.{option_map, MatchOption}
+use Rattle.std.specs.List.{AllWithin, HoldsAt}
 use Rattle.std.proofs.lemmas.List.{take_more, drop_more, length-take-le, take_all}
 use Rattle.numbers.specs.Match.{first_match}
 
@@ -54,6 +55,13 @@ module _ {A : Type 0} (p : A → Bool) where
       at_head false None q = absurd (let z : ◌≡◌ {A = ℕ} 0 1 = cc in omega arith)
       at_head false (Some j) q = absurd (let z : suc j ≡ zero = cc in omega arith)
   match_passes (x ∷ xs) d (suc k) e = match_passes xs d k (shifted (p x) (first_match p xs) k e)
+
+-- as the library's search by position has it
+pub position_is : {A : Type 0} (xs : List A) (p : A → Bool) (r : Option ℕ) → MatchOption r (AllWithin (λ x. p x ≡ false) xs 0 (length xs)) (λ i. (i < length xs) × HoldsAt (λ x. p x ≡ true) xs i × AllWithin (λ x. p x ≡ false) xs 0 i) → r ≡ first_match p xs
+position_is [] p (Some i) h = absurd (omega (arith, h.0))
+position_is (x ∷ xs) p (Some i) h = sym (at_first p (x ∷ xs) x i h.0 (h.1 x) (λ j l. h.2 j x (omega arith) l))
+position_is [] p None h = refl
+position_is (x ∷ xs) p None h = rw (h 0 x (omega arith) (omega arith), ← position_is xs p None (λ k d l u. h (suc k) d (omega arith) (omega arith)))
 
 -- a search through a list that is made from another
 pub match_map : {A B : Type 0} (p : B → Bool) (f : A → B) (xs : List A) → first_match p (map f xs) ≡ first_match (λ x. p (f x)) xs

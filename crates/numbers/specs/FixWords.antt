@@ -1,6 +1,10 @@
 -- A fix_word is four bytes that count 2^-20, its first byte 0 or 255; it is scaled by a size.
-use Rattle.std.specs.Prelude.{ℕ, zero, suc, ◌+◌, ◌-◌, ◌*◌, ◌/◌, ◌%◌, ◌^◌, cond, ℤ, pos, ◌-ℤ◌, Some, None, Option, ◌==◌, nat_lt}
+use Rattle.std.specs.Prelude.{ℕ, zero, suc, ◌+◌, ◌-◌, ◌*◌, ◌/◌, ◌%◌, ◌^◌, Bool, cond, ◌||◌, ℤ, pos, ◌-ℤ◌, Some, None, Option, ◌==◌, nat_lt}
 use Rattle.numbers.specs.Lengths.{good_size}
+
+-- the first byte of a fix_word
+abbrev pub begins_fix_word : ℕ → Bool
+begins_fix_word b = b == 0 || b == 255
 
 -- how often n is halved, rounding down, until it is below 2^23; at most k times
 abbrev pub halved : ℕ → ℕ → ℕ

@@ -1,39 +1,43 @@
 // Numbers of 1 to 4 bytes, high byte first, at a place of a slice.
-ghost use Rattle.std.specs.Prelude.{◌≡◌, ◌^◌, ◌<◌, ◌≤◌, pos, negsuc, ◌≤ℤ◌, IfSome, Some, OnSome};
-ghost use Rattle.numbers.specs.Bytes.{number_at, signed_at, signed, complement_at, fitting, written, written_to, signed_written, signed_written_to};
+ghost use Rattle.std.specs.Prelude.{◌≡◌, ◌^◌, ◌<◌, min, pos, ◌≤ℤ◌, IfSome, if◌then◌else◌, Some, None, OnSome};
+ghost use Rattle.numbers.specs.Bytes.{is_width, number, number_at, signed_at, signed, complement_at, fitting, written, written_to, signed_written, signed_written_to};
+
+use crate::parts::part;
 
 // The unsigned number in the `width` bytes from `place` on; none where they end before, or for no such width.
 pub fn unsigned_at(bytes: &[u8], place: usize, width: usize) -> Option<u32>
     ensures value { result ≡ number_at bytes.now place width }
     ensures bound { IfSome result (λ n. n < 256 ^ width) }
 {
-    if bytes.len() < width || bytes.len() - width < place {
-        return None;
-    }
-    match width {
-        1 => Some(u32::from(bytes[place])),
-        2 => Some(u32::from(bytes[place]) * 256 + u32::from(bytes[place + 1])),
-        3 => Some(
-            (u32::from(bytes[place]) * 256 + u32::from(bytes[place + 1])) * 256
-                + u32::from(bytes[place + 2]),
-        ),
-        4 => Some(
-            ((u32::from(bytes[place]) * 256 + u32::from(bytes[place + 1])) * 256
-                + u32::from(bytes[place + 2]))
-                * 256
-                + u32::from(bytes[place + 3]),
-        ),
+    match bytes.get(place..)?.get(..width)? {
+        [a] => Some(u32::from(*a)),
+        [a, b] => Some(u32::from_be_bytes([0, 0, *a, *b])),
+        [a, b, c] => Some(u32::from_be_bytes([0, *a, *b, *c])),
+        [a, b, c, d] => Some(u32::from_be_bytes([*a, *b, *c, *d])),
         _ => None,
     }
 }
 
 // The number there in two's complement.
-pub fn signed_at(bytes: &[u8], place: usize, width: usize) -> Option<i64>
-    ensures value { result ≡ signed_at bytes.now place width }
-    ensures bound { IfSome result (λ z. (negsuc 2147483647 ≤ℤ z) × (z ≤ℤ pos 2147483647)) }
+pub fn signed_at(bytes: &[u8], place: usize, width: usize) -> Option<i32>
+    ensures { result ≡ signed_at bytes.now place width }
 {
     let n = unsigned_at(bytes, place, width)?;
-    Some(signed_of(n, width))
+    signed_of(n, width)
+}
+
+// The unsigned number in the bytes from `place` on, of which there are `width`, but no more than 4.
+// A byte past the end counts as 0.
+pub fn number(bytes: &[u8], place: usize, width: usize) -> u32
+    ensures value { result ≡ number bytes.now place (min width 4) }
+    ensures bound { result < 256 ^ min width 4 }
+{
+    let bytes = part(bytes, place, 4);
+    let mut n = 0;
+    for i in 0..width.min(4) {
+        n = n * 256 + u32::from(bytes.get(i).copied().unwrap_or(0));
+    }
+    n
 }
 
 // Writes an unsigned number into the `width` bytes from `place` on, and answers the place after it.
@@ -60,70 +64,51 @@ pub fn write_signed(bytes: &mut [u8], place: usize, width: usize, z: i64) -> Opt
     write_unsigned(bytes, place, width, n)
 }
 
+// How many numbers have so many bytes; none for no such width.
+fn numbers_of(width: usize) -> Option<i64>
+    ensures value { result ≡ (if is_width width then Some (pos (256 ^ width)) else None) }
+    ensures bound { IfSome result (λ z. (pos 256 ≤ℤ z) × (z ≤ℤ pos (2 ^ 32))) }
+{
+    match width {
+        1 => Some(256),
+        2 => Some(65_536),
+        3 => Some(16_777_216),
+        4 => Some(4_294_967_296),
+        _ => None,
+    }
+}
+
 // Whether there is such a width and the number has no more bytes.
 fn fits(n: u32, width: usize) -> bool
     ensures { result ≡ fitting width n }
 {
-    match width {
-        1 => n < 256,
-        2 => n < 65_536,
-        3 => n < 16_777_216,
-        4 => true,
-        _ => false,
-    }
+    numbers_of(width).is_some_and(|end| i64::from(n) < end)
 }
 
-fn signed_of(n: u32, width: usize) -> i64
-    requires { (1 ≤ width) × ((width ≤ 4) × (n < 256 ^ width)) }
-    ensures value { result ≡ signed width n }
-    ensures bound { (negsuc 2147483647 ≤ℤ result) × (result ≤ℤ pos 2147483647) }
+// The number whose bytes in two's complement are an unsigned number's; none for no such width.
+fn signed_of(n: u32, width: usize) -> Option<i32>
+    requires { n < 256 ^ width }
+    ensures { result ≡ (if is_width width then Some (signed width n) else None) }
 {
-    let x = i64::from(n);
-    match width {
-        1 => if n < 128 { x } else { x - 256 },
-        2 => if n < 32_768 { x } else { x - 65_536 },
-        3 => if n < 8_388_608 { x } else { x - 16_777_216 },
-        _ => if n < 2_147_483_648 {
-            x
-        } else {
-            x - 4_294_967_296
-        },
-    }
+    let end = numbers_of(width)?;
+    let z = i64::from(n);
+    let z = if 2 * z < end { z } else { z - end };
+    i32::try_from(z).ok()
 }
 
 // The unsigned number whose bytes are a number's in two's complement; none where it does not fit the width.
 pub fn complement(z: i64, width: usize) -> Option<u32>
     ensures { result ≡ complement_at width z }
 {
-    match width {
-        1 => if z < -128 || z > 127 {
-            None
-        } else if z < 0 {
-            Some((z + 256) as u32)
-        } else {
-            Some(z as u32)
-        },
-        2 => if z < -32_768 || z > 32_767 {
-            None
-        } else if z < 0 {
-            Some((z + 65_536) as u32)
-        } else {
-            Some(z as u32)
-        },
-        3 => if z < -8_388_608 || z > 8_388_607 {
-            None
-        } else if z < 0 {
-            Some((z + 16_777_216) as u32)
-        } else {
-            Some(z as u32)
-        },
-        4 => if z < -2_147_483_648 || z > 2_147_483_647 {
-            None
-        } else if z < 0 {
-            Some((z + 4_294_967_296) as u32)
-        } else {
-            Some(z as u32)
-        },
-        _ => None,
+    let end = numbers_of(width)?;
+    if z < 0 {
+        if z < -(end / 2) {
+            return None;
+        }
+        Some((z + end) as u32)
+    } else if z < end / 2 {
+        Some(z as u32)
+    } else {
+        None
     }
 }

@@ -1,13 +1,19 @@
 // fix_words scaled by a size.
-ghost use Rattle.std.specs.Prelude.{◌≡◌, ◌-◌, ◌*◌, ◌/◌, ◌^◌, ◌<◌, ◌≤◌, pos, negsuc, ◌≤ℤ◌, IfSome};
-ghost use Rattle.numbers.specs.FixWords.{halvings, unit, less, scaled_by, scaled};
+ghost use Rattle.std.specs.Prelude.{◌≡◌, ◌-◌, ◌*◌, ◌/◌, ◌^◌, ◌<◌, ◌≤◌};
+ghost use Rattle.numbers.specs.FixWords.{begins_fix_word, halvings, unit, less, scaled_by, scaled};
 
 use crate::lengths::is_size;
 
+// Whether a byte can begin a fix_word.
+pub fn begins_fix_word(first: u8) -> bool
+    ensures { result ≡ begins_fix_word first }
+{
+    first == 0 || first == 255
+}
+
 // A fix_word, given as its four bytes, scaled by a size; none for no size, or where its first byte is neither 0 nor 255.
-pub fn scale(word: u32, size: u32) -> Option<i64>
-    ensures value { result ≡ scaled size word }
-    ensures bound { IfSome result (λ z. (negsuc 2147483647 ≤ℤ z) × (z ≤ℤ pos 2147483647)) }
+pub fn scale(word: u32, size: u32) -> Option<i32>
+    ensures { result ≡ scaled size word }
 {
     if is_size(size) {
         scale_by(word, size)
@@ -16,22 +22,17 @@ pub fn scale(word: u32, size: u32) -> Option<i64>
     }
 }
 
-fn scale_by(word: u32, size: u32) -> Option<i64>
+fn scale_by(word: u32, size: u32) -> Option<i32>
     requires { size < 2 ^ 27 }
-    ensures value { result ≡ scaled_by size word }
-    ensures bound { IfSome result (λ z. (negsuc 2147483647 ≤ℤ z) × (z ≤ℤ pos 2147483647)) }
+    ensures { result ≡ scaled_by size word }
 {
-    let first = word / 16_777_216;
-    if first != 0 && first != 255 {
-        return None;
-    }
     let e = halvings_of(size);
     let z = unit_of(size, e);
     let share = share_of(word % 16_777_216, z, e);
-    if first == 0 {
-        Some(share as i64)
-    } else {
-        Some(share as i64 - less_of(size, z, e) as i64)
+    match word / 16_777_216 {
+        0 => Some(share as i32),
+        255 => Some((share as i64 - less_of(size, z, e) as i64) as i32),
+        _ => None,
     }
 }
 
@@ -56,7 +57,9 @@ fn halvings_of(size: u32) -> u32
 
 // The size halved so often.
 fn unit_of(size: u32, e: u32) -> u64
-    requires { (size < 2 ^ 27) × ((e ≡ halvings size) × (e ≤ 4)) }
+    requires size { size < 2 ^ 27 }
+    requires halvings { e ≡ halvings size }
+    requires few { e ≤ 4 }
     ensures value { result ≡ unit size }
     ensures bound { result < 2 ^ 23 }
 {
@@ -65,7 +68,9 @@ fn unit_of(size: u32, e: u32) -> u64
 
 // What the last three bytes give.
 fn share_of(b: u32, z: u64, e: u32) -> u64
-    requires { (b < 2 ^ 24) × ((z < 2 ^ 23) × (e ≤ 4)) }
+    requires bytes { b < 2 ^ 24 }
+    requires unit { z < 2 ^ 23 }
+    requires few { e ≤ 4 }
     ensures value { result ≡ b * z / 2 ^ (20 - e) }
     ensures bound { result < 2 ^ 31 }
 {
@@ -74,7 +79,10 @@ fn share_of(b: u32, z: u64, e: u32) -> u64
 
 // What a first byte of 255 takes off.
 fn less_of(size: u32, z: u64, e: u32) -> u64
-    requires { (size < 2 ^ 27) × ((e ≡ halvings size) × ((e ≤ 4) × (z ≡ unit size))) }
+    requires size { size < 2 ^ 27 }
+    requires halvings { e ≡ halvings size }
+    requires few { e ≤ 4 }
+    requires unit { z ≡ unit size }
     ensures value { result ≡ less size }
     ensures bound { result < 2 ^ 31 }
 {

@@ -15,10 +15,5 @@ pub fn first_match<K: Copy, T: Keyed<K>>(table: &[T], key: K) -> Option<usize>
     ensures first { result ≡ first_match (λ x. T.Keyed.has x key) table.now }
     ensures within { IfSome result (λ k. k < length table.now) }
 {
-    for (i, x) in table.iter().enumerate() {
-        if x.has_key(key) {
-            return Some(i);
-        }
-    }
-    None
+    table.iter().position(|x| x.has_key(key))
 }

@@ -11,13 +11,13 @@ const POSITION_LIMIT: i64 = 1_073_741_823;
 pub fn is_size(n: u32) -> bool
     ensures { result ≡ good_size n }
 {
-    0 < n && n < SIZE_LIMIT
+    (1..SIZE_LIMIT).contains(&n)
 }
 
 pub fn in_range(z: i64) -> bool
     ensures { result ≡ in_range z }
 {
-    z >= -POSITION_LIMIT && z <= POSITION_LIMIT
+    (-POSITION_LIMIT..=POSITION_LIMIT).contains(&z)
 }
 
 // A position moved by a length; none where it leaves the range.
@@ -25,6 +25,5 @@ pub fn moved(at: i64, by: i64) -> Option<i64>
     ensures value { result ≡ moved_to at by }
     ensures bound { IfSome result (λ z. unsigned_abs z < 2 ^ 30) }
 {
-    let z = at.checked_add(by)?;
-    if in_range(z) { Some(z) } else { None }
+    at.checked_add(by).filter(|z| in_range(*z))
 }

@@ -7,8 +7,8 @@ mod keyed;
 mod lengths;
 mod parts;
 
-pub use bytes::{complement, signed_at, unsigned_at, write_signed, write_unsigned};
-pub use fix_words::scale;
+pub use bytes::{complement, number, signed_at, unsigned_at, write_signed, write_unsigned};
+pub use fix_words::{begins_fix_word, scale};
 pub use keyed::{Keyed, first_match};
 pub use lengths::{in_range, is_size, moved};
 pub use parts::part;

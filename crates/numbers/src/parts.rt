@@ -1,13 +1,10 @@
 // A part of a slice, with no precondition.
 ghost use Rattle.std.specs.Prelude.{◌≡◌, take, drop};
 
-// The n bytes from a place on, as far as there are any.
-pub fn part(bytes: &[u8], place: usize, n: usize) -> &[u8]
-    ensures { result.now ≡ take n (drop place bytes.now) }
+// The n entries from a place on, as far as there are any.
+pub fn part<T>(items: &[T], place: usize, n: usize) -> &[T]
+    ensures { result.now ≡ take n (drop place items.now) }
 {
-    if place > bytes.len() {
-        return &bytes[0..0];
-    }
-    let rest = &bytes[place..];
-    if n >= rest.len() { rest } else { &rest[0..n] }
+    let rest = items.get(place..).unwrap_or(&[]);
+    rest.get(..n).unwrap_or(rest)
 }

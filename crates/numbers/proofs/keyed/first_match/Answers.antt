@@ -1,16 +1,10 @@
-use Rattle.std.proofs.Common.{sym}
-use Rattle.numbers.proofs.Seek.{passed, found, none}
+use Rattle.std.proofs.Common.{◌≡◌, true, false, rules}
+use borrow.Author.Tests.{tests}
+use Rattle.std.proofs.lemmas.Iterator.{IsFirst-from_position, YieldsList-from_slice}
+use Rattle.numbers.proofs.Seek.{position_is}
 use Rattle.numbers.proofs.keyed.first_match.Goals as goal
 
-pub returns-then-has_key : goal.returns-then-has_key
-returns-then-has_key g c =
-    record {
-      first = found _ _ _ _ c.loop-i-test.true c.index-table-i.is c.loop-i.invariant (sym c.if-has_key.ensures);
-      within = c.loop-i-test.true;
-    }
-
-pub loop-i-preserved : goal.loop-i-preserved
-loop-i-preserved g c = passed _ _ _ _ c.loop-i-test.true c.index-table-i.is c.loop-i.invariant (sym c.if-has_key.ensures)
-
-pub returns : goal.returns
-returns g c = record { first = none _ _ _ c.loop-i-test.false c.loop-i.invariant; within = tt }
+pub returns-clause-first : goal.returns-clause-first
+returns-clause-first g c =
+    position_is _ (λ x. g.T.Keyed.has x c.args.key) _
+    (IsFirst-from_position _ _ _ (λ x. g.T.Keyed.has x c.args.key ≡ true) (λ x. g.T.Keyed.has x c.args.key ≡ false) c.position.ensures.ran (YieldsList-from_slice c.args.table.now cc) (λ x q k. search (rules, tests)) (λ x q k. search (rules, tests)))
