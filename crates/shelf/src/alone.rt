@@ -1,14 +1,25 @@
 // The faces of any shelf as a shelf of their own: font k is face k.
-ghost use Rattle.shelf.specs.Alone.{faces_alone};
+ghost use Rattle.shelf.specs.Alone.{faces_alone, is_called};
+ghost use Rattle.std.specs.Prelude.{◌≡◌};
+ghost use Rattle.shelf.specs.Meaning.{told_of};
 ghost use Rattle.shelf.specs.FaceLaws.{alone_lawful, alone_distinct};
 
+use crate::asked::Asked;
 use crate::fonts::{Count, Face, Shelf};
 use crate::marks::{Link, Mark};
 use crate::refusals::{Cause, Refusal};
-use crate::starts::start;
 
 #[derive(Drop)]
 pub struct FacesAlone<S: Shelf>(pub S);
+
+impl<S: Shelf> FacesAlone<S> {
+    // Whether there is a face n, and it bears the name.
+    fn bears(&self, n: u16, name: &[u8]) -> bool
+        ensures { result ≡ is_called (told_of (S.means self.now.0) n) name.now }
+    {
+        self.0.face(n).is_some_and(|face| face.name == name)
+    }
+}
 
 impl<S: Shelf> Shelf for FacesAlone<S> {
     ghost means = { λ s. faces_alone (S.Shelf.means s.0) };
@@ -26,15 +37,7 @@ impl<S: Shelf> Shelf for FacesAlone<S> {
     }
 
     fn find(&self, name: &[u8]) -> Option<u16> {
-        let n = self.0.count().faces;
-        for k in 0..n {
-            if let Some(f) = self.0.face(k) {
-                if f.name == name {
-                    return Some(k);
-                }
-            }
-        }
-        None
+        (0..self.0.count().faces).find(|k| self.bears(*k, name))
     }
 
     fn face(&self, k: u16) -> Option<Face<'_>> {
@@ -44,29 +47,14 @@ impl<S: Shelf> Shelf for FacesAlone<S> {
     // Face k is the first font that bears its name.
     fn character(
         &self,
-        font: u16,
-        size: u32,
-        code: u8,
-        h: i64,
-        v: i64,
+        mut asked: Asked,
         chain: &mut [Link],
         marks: &mut [Mark],
     ) -> Result<(usize, i64), Refusal> {
-        if let Err(cause) = start(self.0.count().faces, font, size, h, v) {
-            return Err(Refusal::Fault { cause, links: 0 });
-        }
-        let Some(f) = self.0.face(font) else {
-            return Err(Refusal::Fault {
-                cause: Cause::NoFont,
-                links: 0,
-            });
-        };
-        let Some(k) = self.0.find(f.name) else {
-            return Err(Refusal::Fault {
-                cause: Cause::NoFont,
-                links: 0,
-            });
-        };
-        self.0.character(k, size, code, h, v, chain, marks)
+        asked.start(self.0.count().faces)?;
+        let face = self.0.face(asked.font).ok_or(Cause::NoFont)?;
+        let font = self.0.find(face.name).ok_or(Cause::NoFont)?;
+        asked.font = font;
+        self.0.character(asked, chain, marks)
     }
 }

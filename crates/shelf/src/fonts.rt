@@ -6,6 +6,7 @@ ghost use Rattle.shelf.specs.Meaning.{Meaning, called, told_of};
 ghost use Rattle.shelf.specs.Names.{Distinct, found_in};
 ghost use Rattle.shelf.specs.Telling.{telling};
 
+use crate::asked::Asked;
 use crate::marks::{Link, Mark};
 use crate::refusals::Refusal;
 
@@ -17,7 +18,7 @@ pub struct Face<'a> {
     pub design: u32,
 }
 
-#[derive(Clone, Copy)]
+#[derive(Clone, Copy, Debug, Eq, PartialEq)]
 pub struct Count {
     pub fonts: u16,
     pub faces: u16,
@@ -41,19 +42,15 @@ pub trait Shelf {
     fn face(&self, k: u16) -> Option<Face<'_>>
         ensures { telling result ≡ told_of (means self.now) k };
 
-    // A character from a start point: its marks at the front of `marks`, the unused rest of the caller's list.
+    // A character: its marks at the front of `marks`, the unused rest of the caller's list.
     // Answers the marks written and the width, or a refusal; a fault's chain stands at the front of `chain`.
     fn character(
         &self,
-        font: u16,
-        size: u32,
-        code: u8,
-        h: i64,
-        v: i64,
+        asked: Asked,
         chain: &mut [Link],
         marks: &mut [Mark],
     ) -> Result<(usize, i64), Refusal>
-        ensures { Answered (called (means self.now) font size code h v) chain.old chain.new marks.old marks.new result };
+        ensures { Answered (called (means self.now) asked.font asked.size asked.code asked.h asked.v) chain.old chain.new marks.old marks.new result };
 
     ghost lawful: { (s : Self) → Lawful (means s) };
 

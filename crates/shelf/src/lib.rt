@@ -2,19 +2,19 @@
 #![tactic(auto)]
 
 mod alone;
+mod asked;
 mod fonts;
 mod links;
 mod marks;
 mod names;
 mod putting;
 mod refusals;
-mod starts;
 
 pub use alone::FacesAlone;
+pub use asked::{Asked, point};
 pub use fonts::{Count, Face, Shelf};
 pub use links::pass_on;
 pub use marks::{Link, Mark};
 pub use names::Name;
 pub use putting::put_mark;
 pub use refusals::{Cause, Refusal};
-pub use starts::{point, start};

@@ -1,7 +1,7 @@
 // What a character or a page leaves: marks, and the links of a fault's chain.
 
 // A glyph of a face or a rule, at a position in 1/65,536 point.
-#[derive(Clone, Copy, PartialEq)]
+#[derive(Clone, Copy, Debug, Eq, PartialEq)]
 pub enum Mark {
     Glyph {
         face: u16,
@@ -20,7 +20,7 @@ pub enum Mark {
 
 // A packet under way at a fault, by its font and code, or the page, by 65,535 and its number;
 // and the place of the command that did not succeed.
-#[derive(Clone, Copy, PartialEq)]
+#[derive(Clone, Copy, Debug, Eq, PartialEq)]
 pub struct Link {
     pub font: u16,
     pub code: u16,

@@ -10,7 +10,7 @@ use crate::refusals::Refusal;
 pub fn put_mark(mark: Mark, width: i64, marks: &mut [Mark]) -> Result<(usize, i64), Refusal>
     ensures { (chain : List Link) → Answered (ends (mark ∷ []) (well width)) chain chain marks.old marks.new result }
 {
-    if marks.len() == 0 {
+    if marks.is_empty() {
         return Err(Refusal::MarksFull);
     }
     marks[0] = mark;

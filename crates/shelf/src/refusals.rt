@@ -1,9 +1,10 @@
 // Why a call is refused: each case has a number, and what is returned beside it.
 ghost use Rattle.std.specs.Prelude.{◌≡◌};
+ghost use Rattle.shelf.specs.declared.refusals.Refusal.TheVariants.{Fault};
 ghost use Rattle.shelf.specs.Refusals.{cause_number, returned};
 
 // Why a page or a packet ends in a fault.
-#[derive(Clone, Copy)]
+#[derive(Clone, Copy, Debug, Eq, PartialEq)]
 pub enum Cause {
     NotAllowed,
     PastEnd,
@@ -16,7 +17,7 @@ pub enum Cause {
 }
 
 // All refusals; docs/REFUSALS.md says when each comes and what it leaves.
-#[derive(Clone, Copy)]
+#[derive(Clone, Copy, Debug, Eq, PartialEq)]
 pub enum Refusal {
     DocumentLength { length: usize },
     NotDocument { place: usize },
@@ -56,6 +57,15 @@ impl Cause {
             Cause::OutOfRange => 17,
             Cause::BadSize => 18,
         }
+    }
+}
+
+// A fault whose chain is still empty.
+impl From<Cause> for Refusal {
+    ghost from_gives = { λ cause r. r ≡ Fault cause 0 };
+
+    fn from(cause: Cause) -> Refusal {
+        Refusal::Fault { cause, links: 0 }
     }
 }
 

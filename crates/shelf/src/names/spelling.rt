@@ -12,7 +12,7 @@ impl Name {
         ensures { option_map spelled result ≡ kept bytes.now }
     {
         let count = bytes.len();
-        if count == 0 || count > 63 {
+        if !(1..=63).contains(&count) {
             return None;
         }
         let mut kept = zeros();
