@@ -1,13 +1,13 @@
 // A font's name: 1 to 63 bytes, kept in place.
-ghost use Rattle.std.specs.Prelude.{◌≡◌, ◌<◌, ◌≤◌, length};
+ghost use Rattle.std.specs.Prelude.{◌<◌};
+ghost use Rattle.arrayvec.specs.ArrayVec.{array_vec_len};
 
-#[derive(Clone, Copy)]
+use arrayvec::ArrayVec;
+
+#[derive(Drop)]
 pub struct Name {
-    bytes: [u8; 63],
-    count: usize,
-    ghost some: { 0 < count },
-    ghost few: { count ≤ 63 },
-    ghost full: { length bytes ≡ 63 },
+    bytes: ArrayVec<u8, 63>,
+    ghost some: { 0 < array_vec_len bytes },
 }
 
 mod spelling;
