@@ -1,6 +1,6 @@
 // The command at a place, and how many bytes it takes.
 ghost use Rattle.std.specs.Prelude.{◌≡◌, ◌+◌, ◌<◌, ◌≤◌, length, IfSome, OnSome};
-ghost use Rattle.numbers.specs.Bytes.{number_at, signed_at};
+ghost use Rattle.numbers.specs.Bytes.{signed_at};
 ghost use Rattle.commands.specs.Commands.{code_at, sides_at, read_as, command_at};
 ghost use Rattle.commands.specs.Shapes.{shape_of};
 
@@ -14,10 +14,7 @@ pub fn command_at(bytes: &[u8], at: usize) -> Option<(Command<'_>, usize)>
     ensures is { shape_of result ≡ command_at bytes.now at }
     ensures within { IfSome result (λ p. (0 < p.1) × (at + p.1 ≤ length bytes.now)) }
 {
-    if at >= bytes.len() {
-        return None;
-    }
-    let (kind, width) = kind_of(bytes[at]);
+    let (kind, width) = kind_of(*bytes.get(at)?);
     command_of(kind, bytes, at, width)
 }
 
@@ -28,7 +25,8 @@ fn command_of<'a>(
     at: usize,
     width: usize,
 ) -> Option<(Command<'a>, usize)>
-    requires { (at < length bytes.now) × (width ≤ 4) }
+    requires inside { at < length bytes.now }
+    requires few { width ≤ 4 }
     ensures is { shape_of result ≡ read_as kind bytes.now at width }
     ensures within { IfSome result (λ p. (0 < p.1) × (at + p.1 ≤ length bytes.now)) }
 {
@@ -41,74 +39,54 @@ fn command_of<'a>(
             },
             1,
         )),
-        Kind::Set => match code_at(bytes, place, width) {
-            Some(code) => Some((Command::Set { code }, n)),
-            None => None,
-        },
-        Kind::SetRule => match sides_at(bytes, place) {
-            Some((height, width)) => Some((Command::SetRule { height, width }, 9)),
-            None => None,
-        },
-        Kind::Put => match code_at(bytes, place, width) {
-            Some(code) => Some((Command::Put { code }, n)),
-            None => None,
-        },
-        Kind::PutRule => match sides_at(bytes, place) {
-            Some((height, width)) => Some((Command::PutRule { height, width }, 9)),
-            None => None,
-        },
+        Kind::Set => Some((
+            Command::Set {
+                code: code_at(bytes, place, width)?,
+            },
+            n,
+        )),
+        Kind::SetRule => {
+            let (height, width) = sides_at(bytes, place)?;
+            Some((Command::SetRule { height, width }, 9))
+        }
+        Kind::Put => Some((
+            Command::Put {
+                code: code_at(bytes, place, width)?,
+            },
+            n,
+        )),
+        Kind::PutRule => {
+            let (height, width) = sides_at(bytes, place)?;
+            Some((Command::PutRule { height, width }, 9))
+        }
         Kind::Nop => Some((Command::Nop, 1)),
         Kind::Eop => Some((Command::Eop, 1)),
         Kind::Push => Some((Command::Push, 1)),
         Kind::Pop => Some((Command::Pop, 1)),
-        Kind::Right => match length_at(bytes, place, width) {
-            Some(by) => Some((Command::Right(by), n)),
-            None => None,
-        },
+        Kind::Right => Some((Command::Right(length_at(bytes, place, width)?), n)),
         Kind::W0 => Some((Command::W0, 1)),
-        Kind::W => match length_at(bytes, place, width) {
-            Some(by) => Some((Command::W(by), n)),
-            None => None,
-        },
+        Kind::W => Some((Command::W(length_at(bytes, place, width)?), n)),
         Kind::X0 => Some((Command::X0, 1)),
-        Kind::X => match length_at(bytes, place, width) {
-            Some(by) => Some((Command::X(by), n)),
-            None => None,
-        },
-        Kind::Down => match length_at(bytes, place, width) {
-            Some(by) => Some((Command::Down(by), n)),
-            None => None,
-        },
+        Kind::X => Some((Command::X(length_at(bytes, place, width)?), n)),
+        Kind::Down => Some((Command::Down(length_at(bytes, place, width)?), n)),
         Kind::Y0 => Some((Command::Y0, 1)),
-        Kind::Y => match length_at(bytes, place, width) {
-            Some(by) => Some((Command::Y(by), n)),
-            None => None,
-        },
+        Kind::Y => Some((Command::Y(length_at(bytes, place, width)?), n)),
         Kind::Z0 => Some((Command::Z0, 1)),
-        Kind::Z => match length_at(bytes, place, width) {
-            Some(by) => Some((Command::Z(by), n)),
-            None => None,
-        },
+        Kind::Z => Some((Command::Z(length_at(bytes, place, width)?), n)),
         Kind::FntNum => Some((Command::Fnt(u32::from(bytes[at].saturating_sub(171))), 1)),
-        Kind::Fnt => match number_at(bytes, place, width) {
-            Some(number) => Some((Command::Fnt(number), n)),
-            None => None,
-        },
-        Kind::Xxx => match number_at(bytes, place, width) {
-            Some(count) => if bytes.len() - at - n < count as usize {
-                None
-            } else {
-                Some((Command::Xxx, n + count as usize))
-            },
-            None => None,
-        },
-        Kind::FntDef => match definition_at(bytes, at, width) {
-            Some(d) => {
-                let count = d.name.len();
-                Some((Command::FntDef(d), width + 15 + count))
+        Kind::Fnt => Some((Command::Fnt(unsigned_at(bytes, place, width)?), n)),
+        Kind::Xxx => {
+            let count = unsigned_at(bytes, place, width)? as usize;
+            if bytes.len() - at - n < count {
+                return None;
             }
-            None => None,
-        },
+            Some((Command::Xxx, n + count))
+        }
+        Kind::FntDef => {
+            let d = definition_at(bytes, at, width)?;
+            let count = d.name.len();
+            Some((Command::FntDef(d), width + 15 + count))
+        }
         Kind::Undefined => Some((Command::Undefined, 1)),
     }
 }
@@ -119,9 +97,7 @@ fn sides_at(bytes: &[u8], place: usize) -> Option<(i64, i64)>
     ensures is { result ≡ sides_at bytes.now place }
     ensures within { OnSome result (place + 8 ≤ length bytes.now) }
 {
-    let height = length_at(bytes, place, 4)?;
-    let width = length_at(bytes, place + 4, 4)?;
-    Some((height, width))
+    Some((length_at(bytes, place, 4)?, length_at(bytes, place + 4, 4)?))
 }
 
 // A code: signed at four bytes only.
@@ -130,10 +106,10 @@ fn code_at(bytes: &[u8], place: usize, width: usize) -> Option<i64>
     ensures within { OnSome result (place + width ≤ length bytes.now) }
 {
     if width == 4 {
-        return length_at(bytes, place, 4);
+        length_at(bytes, place, 4)
+    } else {
+        unsigned_at(bytes, place, width).map(i64::from)
     }
-    let n = number_at(bytes, place, width)?;
-    Some(i64::from(n))
 }
 
 // A length: signed.
@@ -141,13 +117,5 @@ fn length_at(bytes: &[u8], place: usize, width: usize) -> Option<i64>
     ensures is { result ≡ signed_at bytes.now place width }
     ensures within { OnSome result (place + width ≤ length bytes.now) }
 {
-    signed_at(bytes, place, width)
-}
-
-// A font number or the length of a special: never signed.
-fn number_at(bytes: &[u8], place: usize, width: usize) -> Option<u32>
-    ensures is { result ≡ number_at bytes.now place width }
-    ensures within { OnSome result (place + width ≤ length bytes.now) }
-{
-    unsigned_at(bytes, place, width)
+    signed_at(bytes, place, width).map(i64::from)
 }

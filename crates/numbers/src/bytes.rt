@@ -1,5 +1,5 @@
 // Numbers of 1 to 4 bytes, high byte first, at a place of a slice.
-ghost use Rattle.std.specs.Prelude.{◌≡◌, ◌^◌, ◌<◌, min, pos, ◌≤ℤ◌, IfSome, if◌then◌else◌, Some, None, OnSome};
+ghost use Rattle.std.specs.Prelude.{◌≡◌, ◌+◌, ◌^◌, ◌<◌, ◌≤◌, length, min, pos, ◌≤ℤ◌, IfSome, if◌then◌else◌, Some, None, OnSome};
 ghost use Rattle.numbers.specs.Bytes.{is_width, number, number_at, signed_at, signed, complement_at, fitting, written, written_to, signed_written, signed_written_to};
 
 use crate::parts::part;
@@ -8,6 +8,7 @@ use crate::parts::part;
 pub fn unsigned_at(bytes: &[u8], place: usize, width: usize) -> Option<u32>
     ensures value { result ≡ number_at bytes.now place width }
     ensures bound { IfSome result (λ n. n < 256 ^ width) }
+    ensures within { OnSome result (place + width ≤ length bytes.now) }
 {
     match bytes.get(place..)?.get(..width)? {
         [a] => Some(u32::from(*a)),
@@ -20,7 +21,8 @@ pub fn unsigned_at(bytes: &[u8], place: usize, width: usize) -> Option<u32>
 
 // The number there in two's complement.
 pub fn signed_at(bytes: &[u8], place: usize, width: usize) -> Option<i32>
-    ensures { result ≡ signed_at bytes.now place width }
+    ensures value { result ≡ signed_at bytes.now place width }
+    ensures within { OnSome result (place + width ≤ length bytes.now) }
 {
     let n = unsigned_at(bytes, place, width)?;
     signed_of(n, width)
