@@ -1,11 +1,11 @@
 -- The machine's state and answers as the definitions have them.
-use Rattle.std.specs.Prelude.{ℕ, Bool, true, false, [], ◌∷◌, ℤ, Ok, Err, Result}
+use Rattle.std.specs.Prelude.{ℕ, Bool, true, false, List, [], ◌∷◌, ℤ, Some, None, Option, Ok, Err, Result}
+use Rattle.shelf.specs.declared.marks.Mark.{Mark}
 use Rattle.shelf.specs.declared.refusals.Cause.{Cause}
 use Rattle.shelf.specs.declared.refusals.Refusal.{Refusal}
 use Rattle.shelf.specs.Outcomes.{Outcome, Ending, well, fault, ends, faulty}
-use Rattle.machine.specs.declared.registers.Ruled.{Ruled}
+use Rattle.machine.specs.declared.registers.Drawn.{Drawn}
 use Rattle.machine.specs.declared.registers.Turn.{Turn}
-use Rattle.machine.specs.declared.registers.Ruled.TheVariants as R
 use Rattle.machine.specs.declared.state.Machine.{Machine}
 use Rattle.machine.specs.Frames.{frames_of}
 use Rattle.machine.specs.Steps.{State, Next, go, done}
@@ -32,10 +32,13 @@ stepped (Ok (n, on)) st = Ok (n, next on st)
 stepped (Err e) st = Err e
 
 -- what a rule comes to, as code has it
-abbrev pub rule_outcome : Ruled → Outcome ℤ
-rule_outcome (R.Mark m w) = ends (m ∷ []) (well w)
-rule_outcome (R.Blank w) = ends [] (well w)
-rule_outcome (R.Fault k) = faulty k
+abbrev pub marks_in : Option Mark → List Mark
+marks_in (Some m) = m ∷ []
+marks_in None = []
+
+abbrev pub rule_outcome : Result Drawn Cause → Outcome ℤ
+rule_outcome (Ok d) = ends (marks_in d.mark) (well d.width)
+rule_outcome (Err k) = faulty k
 
 abbrev pub turned_by : Result Turn Refusal → State → Result (ℕ × (ℕ × Next)) Refusal
 turned_by (Ok t) st = Ok (t.marks, (t.length, next t.on st))

@@ -3,6 +3,7 @@ ghost use Rattle.std.specs.Prelude.{◌≡◌, ◌≤◌, length};
 
 use crate::registers::Registers;
 
+// One table of fixed size in a plain struct, as the project asks: no memory is reserved, and one frame moves at a time.
 #[derive(Drop)]
 pub struct Frames {
     saved: [Registers; 64],

@@ -3,6 +3,7 @@
 
 mod body;
 mod frames;
+mod level;
 mod making;
 mod moves;
 mod quiet;
@@ -13,6 +14,6 @@ mod stepping;
 
 pub use body::Body;
 pub use frames::Frames;
+pub use level::Level;
 pub use registers::{Chosen, Registers};
-pub use running::run;
 pub use state::Machine;

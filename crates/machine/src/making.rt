@@ -1,12 +1,12 @@
 // Characters and rules: what makes marks.
-ghost use Rattle.std.specs.Prelude.{◌≡◌, List, Some, None};
+ghost use Rattle.std.specs.Prelude.{◌≡◌, List};
 ghost use Rattle.shelf.specs.declared.marks.Link.{Link as Linked};
 ghost use Rattle.shelf.specs.Answers.{Answered};
 ghost use Rattle.machine.specs.Views.{rule_outcome};
-ghost use Rattle.machine.specs.Steps.{typeset as typeset_by, byte_of, side as side_of, sides as sides_of, drawn, ruled};
+ghost use Rattle.machine.specs.Steps.{typeset as typeset_by, byte_of, side as side_of, sides as sides_of, ruled};
 
-use crate::registers::{Chosen, Registers, Ruled};
-use shelf::{Cause, Link, Mark, Refusal, Shelf, point, put_mark};
+use crate::registers::{Chosen, Drawn, Registers};
+use shelf::{Asked, Cause, Link, Mark, Refusal, Shelf, point, put_mark};
 
 // A character of the selected font.
 pub(crate) fn typeset<S: Shelf>(
@@ -19,40 +19,22 @@ pub(crate) fn typeset<S: Shelf>(
 ) -> Result<(usize, i64), Refusal>
     ensures { Answered (typeset_by (S.means below.now) font code at) chain.old chain.new marks.old marks.new result }
 {
-    let Some(f) = font else {
-        return Err(Refusal::Fault {
-            cause: Cause::NoFont,
-            links: 0,
-        });
+    let chosen = font.ok_or(Cause::NoFont)?;
+    let code = byte_of(code).ok_or(Cause::NoCode)?;
+    let asked = Asked {
+        font: chosen.font,
+        size: chosen.size,
+        code,
+        h: at.h,
+        v: at.v,
     };
-    match byte_of(code) {
-        Some(code) => below.character(f.font, f.size, code, at.h, at.v, chain, marks),
-        None => Err(Refusal::Fault {
-            cause: Cause::NoCode,
-            links: 0,
-        }),
-    }
+    below.character(asked, chain, marks)
 }
 
 fn byte_of(code: i64) -> Option<u8>
     ensures { result ≡ byte_of code }
 {
-    if code < 0 || code > 255 {
-        None
-    } else {
-        Some(code as u8)
-    }
-}
-
-// A side that a rule can have.
-fn side(z: i64) -> Option<u32>
-    ensures { result ≡ side_of z }
-{
-    if z <= 0 || z >= 2_147_483_648 {
-        None
-    } else {
-        Some(z as u32)
-    }
+    u8::try_from(code).ok()
 }
 
 // A rule; its width, whether it makes a mark or not.
@@ -64,55 +46,41 @@ pub(crate) fn rule(
 ) -> Result<(usize, i64), Refusal>
     ensures { (chain : List Linked) → Answered (ruled height width at) chain chain marks.old marks.new result }
 {
-    match rule_of(height, width, at) {
-        Ruled::Mark { mark, width } => put_mark(mark, width, marks),
-        Ruled::Blank { width } => Ok((0, width)),
-        Ruled::Fault { cause } => Err(Refusal::Fault { cause, links: 0 }),
+    let drawn = draw(height, width, at)?;
+    match drawn.mark {
+        Some(mark) => put_mark(mark, drawn.width, marks),
+        None => Ok((0, drawn.width)),
     }
 }
 
-fn rule_of(height: Option<i64>, width: Option<i64>, at: Registers) -> Ruled
+fn draw(height: Option<i64>, width: Option<i64>, at: Registers) -> Result<Drawn, Cause>
     ensures { rule_outcome result ≡ ruled height width at }
 {
-    let Some(height) = height else {
-        return Ruled::Fault {
-            cause: Cause::BadSize,
-        };
-    };
-    let Some(width) = width else {
-        return Ruled::Fault {
-            cause: Cause::BadSize,
-        };
-    };
-    draw(point(at.h, at.v), sides(height, width), width)
-}
-
-fn draw(from: Option<(i32, i32)>, sides: Option<(u32, u32)>, width: i64) -> Ruled
-    ensures { rule_outcome result ≡ drawn from sides width }
-{
-    let Some((h, v)) = from else {
-        return Ruled::Fault {
-            cause: Cause::OutOfRange,
-        };
-    };
-    match sides {
-        Some((height, across)) => Ruled::Mark {
-            mark: Mark::Rule {
-                height,
-                width: across,
-                h,
-                v,
-            },
+    let height = height.ok_or(Cause::BadSize)?;
+    let width = width.ok_or(Cause::BadSize)?;
+    let (h, v) = point(at.h, at.v).ok_or(Cause::OutOfRange)?;
+    Ok(Drawn {
+        mark: sides(height, width).map(|(height, width)| Mark::Rule {
+            height,
             width,
-        },
-        None => Ruled::Blank { width },
-    }
+            h,
+            v,
+        }),
+        width,
+    })
 }
 
 fn sides(height: i64, width: i64) -> Option<(u32, u32)>
     ensures { result ≡ sides_of (side_of height) (side_of width) }
 {
-    let a = side(height)?;
-    let b = side(width)?;
-    Some((a, b))
+    Some((side(height)?, side(width)?))
+}
+
+// A side that a rule can have.
+fn side(z: i64) -> Option<u32>
+    ensures { result ≡ side_of z }
+{
+    u32::try_from(z)
+        .ok()
+        .filter(|n| (1..2_147_483_648).contains(n))
 }

@@ -13,55 +13,33 @@ use shelf::Cause;
 pub(crate) fn across(r: Registers, b: i64) -> Result<Registers, Cause>
     ensures { ending_of result ≡ across_by r b }
 {
-    match moved(r.h, b) {
-        Some(h) => Ok(Registers { h, ..r }),
-        None => Err(Cause::OutOfRange),
-    }
+    let h = moved(r.h, b).ok_or(Cause::OutOfRange)?;
+    Ok(Registers { h, ..r })
 }
 
 fn downward(r: Registers, b: i64) -> Result<Registers, Cause>
     ensures { ending_of result ≡ downward_by r b }
 {
-    match moved(r.v, b) {
-        Some(v) => Ok(Registers { v, ..r }),
-        None => Err(Cause::OutOfRange),
-    }
+    let v = moved(r.v, b).ok_or(Cause::OutOfRange)?;
+    Ok(Registers { v, ..r })
 }
 
 // The registers after a move.
 pub(crate) fn shift<B: Body>(body: &B, command: Command, r: Registers) -> Result<Registers, Cause>
-    ensures { ending_of result ≡ shifted (B.measures body.now) (plain command.entry) r }
+    ensures { ending_of result ≡ shifted (B.acts body.now).measure (plain command.entry) r }
 {
     match command {
-        Command::Right(b) => right(r, body.measure(b)),
+        Command::Right(b) => across(r, body.measure(b).ok_or(Cause::BadSize)?),
         Command::W0 => space(Spacing::W, r),
         Command::W(b) => space_by(Spacing::W, r, body.measure(b)),
         Command::X0 => space(Spacing::X, r),
         Command::X(b) => space_by(Spacing::X, r, body.measure(b)),
-        Command::Down(b) => down(r, body.measure(b)),
+        Command::Down(b) => downward(r, body.measure(b).ok_or(Cause::BadSize)?),
         Command::Y0 => space(Spacing::Y, r),
         Command::Y(b) => space_by(Spacing::Y, r, body.measure(b)),
         Command::Z0 => space(Spacing::Z, r),
         Command::Z(b) => space_by(Spacing::Z, r, body.measure(b)),
         _ => Err(Cause::NotAllowed),
-    }
-}
-
-fn right(r: Registers, b: Option<i64>) -> Result<Registers, Cause>
-    ensures { ending_of result ≡ measured b (across_by r) }
-{
-    match b {
-        Some(l) => across(r, l),
-        None => Err(Cause::BadSize),
-    }
-}
-
-fn down(r: Registers, b: Option<i64>) -> Result<Registers, Cause>
-    ensures { ending_of result ≡ measured b (downward_by r) }
-{
-    match b {
-        Some(l) => downward(r, l),
-        None => Err(Cause::BadSize),
     }
 }
 
@@ -81,10 +59,8 @@ fn space(which: Spacing, r: Registers) -> Result<Registers, Cause>
 fn space_by(which: Spacing, r: Registers, b: Option<i64>) -> Result<Registers, Cause>
     ensures { ending_of result ≡ measured b (λ l. spaced which (with_spacing which r l)) }
 {
-    match b {
-        Some(l) => space(which, spacing_set(which, r, l)),
-        None => Err(Cause::BadSize),
-    }
+    let l = b.ok_or(Cause::BadSize)?;
+    space(which, spacing_set(which, r, l))
 }
 
 fn spacing_set(which: Spacing, r: Registers, l: i64) -> Registers

@@ -1,8 +1,8 @@
 // What a page or a packet under way keeps.
-use shelf::{Cause, Mark};
+use shelf::Mark;
 
 // The registers, in 1/65,536 point: the position h and v, the spacings w and x across, y and z down.
-#[derive(Clone, Copy)]
+#[derive(Clone, Copy, Default)]
 pub struct Registers {
     pub h: i64,
     pub v: i64,
@@ -28,12 +28,11 @@ pub enum Spacing {
     Z,
 }
 
-// What a rule comes to: a mark or none, and its width; or a fault.
+// What a rule comes to: a mark, or none where a side is not positive, and its width in any case.
 #[derive(Clone, Copy)]
-pub enum Ruled {
-    Mark { mark: Mark, width: i64 },
-    Blank { width: i64 },
-    Fault { cause: Cause },
+pub struct Drawn {
+    pub mark: Option<Mark>,
+    pub width: i64,
 }
 
 // A command carried out: the marks made, its length in bytes, and whether the page or packet goes on.

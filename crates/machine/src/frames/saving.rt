@@ -1,9 +1,11 @@
 // One frame written at a push, and read at a pop.
-ghost use Rattle.std.specs.Prelude.{◌≡◌, ◌≤◌, [], length, ◌==◌};
+ghost use Rattle.std.specs.Prelude.{◌≡◌, [], length, IfErr, is_ok, ◌==◌};
+ghost use Rattle.shelf.specs.declared.refusals.Cause.TheVariants.{Frames as TooMany};
 ghost use Rattle.machine.specs.Frames.{frames_of, pushed, popped};
 
 use crate::frames::Frames;
 use crate::registers::Registers;
+use shelf::Cause;
 
 const MAX_FRAMES: usize = 64;
 
@@ -11,30 +13,23 @@ impl Frames {
     pub fn new() -> Frames
         ensures { frames_of result ≡ [] }
     {
-        let zero = Registers {
-            h: 0,
-            v: 0,
-            w: 0,
-            x: 0,
-            y: 0,
-            z: 0,
-        };
         Frames {
-            saved: [zero; 64],
+            saved: [Registers::default(); 64],
             depth: 0,
         }
     }
 
-    // Saves a frame; false, and nothing changes, where 64 are saved.
-    pub fn push(&mut self, r: Registers) -> bool
-        ensures { (result, frames_of self.new) ≡ pushed r (frames_of self.old) }
+    // Saves a frame; a fault, and nothing changes, where 64 are saved.
+    pub fn push(&mut self, r: Registers) -> Result<(), Cause>
+        ensures pushed { (is_ok result, frames_of self.new) ≡ pushed r (frames_of self.old) }
+        ensures cause { IfErr result (λ k. k ≡ TooMany) }
     {
         if self.depth >= MAX_FRAMES {
-            return false;
+            return Err(Cause::Frames);
         }
         self.saved[self.depth] = r;
         self.depth += 1;
-        true
+        Ok(())
     }
 
     // Takes the last frame back; none, and nothing changes, where none is saved.

@@ -1,9 +1,10 @@
 use Rattle.std.proofs.Common.{ap, w64, SFits, rules}
 use Rattle.std.proofs.lemmas.Int.{to_z-of_z}
+use Rattle.std.proofs.lemmas.Result.{err_from_is_err_and}
 use Rattle.commands.specs.Shapes.{plain}
 use Rattle.machine.specs.Views.{view_of}
 use Rattle.machine.proofs.Onward.{by-set, by-put, by-set_rule, by-put_rule, is-silent, silent-step}
-use Rattle.machine.proofs.stepping.step.Goals as goal
+use Rattle.machine.proofs.level.Level.step.Goals as goal
 
 pub returns-in-Set : goal.returns-in-Set
 returns-in-Set g c =
@@ -27,12 +28,13 @@ returns-in-PutRule g c =
     let h : SFits w64 c.in-PutRule.width = search rules in
     by-put_rule _ _ _ _ _ _ _ _ _ _ _ _ (ap plain c.in-PutRule.is) (simp to_z-of_z at c.measure-in-PutRule.ensures) (simp to_z-of_z at c.measure-in-PutRule-2.ensures) (c.keep-in-PutRule.ensures (view_of c.args.m.now) _ _ _ _ _ (c.rule.ensures _))
 
-pub returns-in-Ok : goal.returns-in-Ok
-returns-in-Ok g c =
+pub returns-in_ok-obey-in_default : goal.returns-in_ok-obey-in_default
+returns-in_ok-obey-in_default g c =
     let r = c.in_default in
-    silent-step _ _ _ _ _ _ (is-silent _ c.args.command _ r.not-Set r.not-Put r.not-SetRule r.not-PutRule) c.in-Ok.ensures
+    silent-step _ _ _ _ _ _ (is-silent _ c.args.command _ r.not-Set r.not-Put r.not-SetRule r.not-PutRule) c.in_ok-obey-in_default.ensures
 
-pub returns-in-Err : goal.returns-in-Err
-returns-in-Err g c =
+pub returns-in_err-obey-in_default : goal.returns-in_err-obey-in_default
+returns-in_err-obey-in_default g c =
     let r = c.in_default in
-    silent-step _ _ _ _ _ _ (is-silent _ c.args.command _ r.not-Set r.not-Put r.not-SetRule r.not-PutRule) c.in-Err.ensures
+    let p = err_from_is_err_and c.from_residual.result c.from_residual.ensures.1 in
+    rw (p.1, p.2) (silent-step _ _ _ _ _ _ (is-silent _ c.args.command _ r.not-Set r.not-Put r.not-SetRule r.not-PutRule) c.in_err-obey-in_default.ensures)
