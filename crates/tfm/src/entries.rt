@@ -1,5 +1,9 @@
 // What a TFM shelf is made from, and why it may not be made.
+ghost use Rattle.std.specs.Prelude.{◌≡◌};
+ghost use Rattle.tfm.specs.declared.entries.NotMade.TheVariants.{Refused, NoMemory};
+
 use shelf::Refusal;
+use std::alloc::AllocError;
 
 // Where a face's name and its TFM file stand in the bytes.
 #[derive(Clone, Copy)]
@@ -15,4 +19,20 @@ pub struct Entry {
 pub enum NotMade {
     Refused(Refusal),
     NoMemory,
+}
+
+impl From<Refusal> for NotMade {
+    ghost from_gives = { λ e r. r ≡ Refused e };
+
+    fn from(e: Refusal) -> NotMade {
+        NotMade::Refused(e)
+    }
+}
+
+impl From<AllocError> for NotMade {
+    ghost from_gives = { λ _ r. r ≡ NoMemory };
+
+    fn from(_: AllocError) -> NotMade {
+        NotMade::NoMemory
+    }
 }

@@ -8,9 +8,8 @@ ghost use Rattle.shelf.specs.Finding.{apart_distinct};
 ghost use Rattle.tfm.specs.Unlike.{face_names};
 
 use crate::faces::TfmFace;
-use crate::naming::face_named;
 use crate::shelves::TfmShelf;
-use numbers::{scale, unsigned_at};
+use numbers::{first_match, number, scale, unsigned_at};
 use shelf::{Cause, Count, Face, Link, Mark, Refusal, Shelf, put_mark, start};
 
 impl Shelf for TfmShelf {
@@ -29,22 +28,15 @@ impl Shelf for TfmShelf {
     }
 
     fn find(&self, name: &[u8]) -> Option<u16> {
-        match face_named(self.faces.as_slice(), name) {
-            Some(k) => Some(k as u16),
-            None => None,
-        }
+        first_match(self.faces.as_slice(), name).map(|k| k as u16)
     }
 
     fn face(&self, k: u16) -> Option<Face<'_>> {
-        if (k as usize) < self.faces.len() {
-            let f = &self.faces[k as usize];
-            return Some(Face {
-                name: f.name.as_slice(),
-                checksum: f.checksum,
-                design: f.design,
-            });
-        }
-        None
+        self.faces.get(usize::from(k)).map(|f| Face {
+            name: f.name.as_slice(),
+            checksum: f.checksum,
+            design: f.design,
+        })
     }
 
     fn character(
@@ -92,20 +84,12 @@ fn width(bytes: &[u8], face: &TfmFace, size: u32, code: u8) -> Option<i64>
     ensures bound { IfSome result (λ z. (negsuc 2147483647 ≤ℤ z) × (z ≤ℤ pos 2147483647)) }
 {
     let code = usize::from(code);
-    if code < face.first || code >= face.first + face.count {
+    if !(face.first..face.first + face.count).contains(&code) {
         return None;
     }
-    let index = byte_at(bytes, face.characters + 4 * (code - face.first));
+    let index = number(bytes, face.characters + 4 * (code - face.first), 1) as usize;
     if index == 0 {
         return None;
     }
-    let word = unsigned_at(bytes, face.widths + 4 * usize::from(index), 4)?;
-    scale(word, size)
-}
-
-// The byte at a place, 0 past the end.
-fn byte_at(bytes: &[u8], place: usize) -> u8
-    ensures { result ≡ slice_index bytes.now place }
-{
-    if place < bytes.len() { bytes[place] } else { 0 }
+    scale(unsigned_at(bytes, face.widths + 4 * index, 4)?, size)
 }
