@@ -32,9 +32,6 @@ pub record Wide (o : Outline) (size code : ℕ) (w : ℤ) : Type 0 where
   pub word : ℕ
   pub is : scaled size word ≡ Some w
 
-absent : {X : Type 0} (w : ℤ) → ◌≡◌ {A = Option ℤ} None (Some w) → X
-absent w q = absurd (let z : ◌≡◌ {A = ℕ} 0 1 = cc in omega arith)
-
 wide : (bytes : List ℕ) (o : Outline) (size code : ℕ) (w : ℤ) → width_of bytes o size code ≡ Some w → Wide o size code w
 wide bytes o size code w e = by (nat_le o.first code && nat_lt code (o.first + o.count)) refl e
   where
@@ -43,15 +40,15 @@ wide bytes o size code w e = by (nat_le o.first code && nat_lt code (o.first + o
 
     worded : code < o.first + o.count → (n : Option ℕ) → scaled_word size n ≡ Some w → Wide o size code w
     worded l (Some n) q = record { within = l; word = n; is = q }
-    worded l None q = absent w q
+    worded l None q = cc
 
     indexed : code < o.first + o.count → (b : Bool) → cond b None (scaled_word size (number_at bytes (o.widths + 4 * index) 4)) ≡ Some w → Wide o size code w
-    indexed l true q = absent w q
+    indexed l true q = cc
     indexed l false q = worded l (number_at bytes (o.widths + 4 * index) 4) q
 
     by : (b : Bool) → (nat_le o.first code && nat_lt code (o.first + o.count)) ≡ b → cond b (by_index bytes o size (slice_index bytes (o.characters + 4 * (code - o.first)))) None ≡ Some w → Wide o size code w
     by true p q = indexed (ltb-true code (o.first + o.count) (and_parts (nat_le o.first code) (nat_lt code (o.first + o.count)) p).1) (index == 0) q
-    by false p q = absent w q
+    by false p q = cc
 
 spelled-length : (f : TfmFace) → length (spelled f.name) ≡ f.name.count
 spelled-length f = length-take-le f.name.count f.name.bytes (omega arith)
@@ -67,7 +64,7 @@ module _ (bytes : List ℕ) where
     pub is : face_of bytes (outline_of face) ≡ m
 
   kept : (fs : List TfmFace) (k : ℕ) (m : FaceMeaning) → slice_get (map (face_of bytes) (map outline_of fs)) k ≡ Some m → Kept fs k m
-  kept [] k m e = absurd (let z : ◌≡◌ {A = ℕ} 0 1 = cc in omega arith)
+  kept [] k m e = cc
   kept (f ∷ fs) zero m e = record { face = f; is = cc }
   kept (f ∷ fs) (suc k) m e = let i = kept fs k m e in record { face = i.face; is = i.is }
 

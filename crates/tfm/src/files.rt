@@ -1,13 +1,14 @@
 // TFM files: whether these bytes are one, and what it states.
-ghost use Rattle.std.specs.Prelude.{◌≡◌, ℕ, ◌+◌, ◌*◌, ◌^◌, ◌<◌, ◌≤◌, Bool, true, length, if◌then◌else◌, Some, None, slice_index};
+ghost use Rattle.std.specs.Prelude.{◌≡◌, ◌+◌, ◌*◌, ◌^◌, ◌<◌, ◌≤◌, true, length, if◌then◌else◌, Some, None};
 ghost use Rattle.std.specs.Option.{option_map};
 ghost use Rattle.numbers.specs.Bytes.{number};
 ghost use Rattle.shelf.specs.Spelling.{spelled};
-ghost use Rattle.tfm.specs.Files.{bc, codes, nw, characters, widths, behind, counts_agree, every, indexed, fix_words, contents_agree, is_tfm, Fit};
+ghost use Rattle.tfm.specs.Files.{bc, codes, nw, characters, widths, behind, counts_agree, contents_agree, is_tfm, Fit};
 ghost use Rattle.tfm.specs.Outlines.{outlined, outline_of};
 
 use crate::faces::TfmFace;
-use numbers::{begins_fix_word, number};
+use crate::words::Words;
+use numbers::number;
 use shelf::Name;
 
 // The twelve counts take so many bytes.
@@ -104,9 +105,19 @@ fn contents_agree(file: &[u8]) -> bool
     ensures { result ≡ contents_agree file.now }
 {
     let layout = layout_of(file);
+    let codes = Words {
+        file,
+        from: layout.characters,
+        n: layout.codes,
+    };
+    let widths = Words {
+        file,
+        from: layout.widths,
+        n: layout.nw,
+    };
     (LEAST_DESIGN..DESIGN_LIMIT).contains(&number(file, DESIGN_PLACE, 4))
-        && indexes_below(file, layout.characters, layout.codes, layout.nw)
-        && are_fix_words(file, layout.widths, layout.nw)
+        && codes.are_below(layout.nw)
+        && widths.are_fix_words()
         && number(file, layout.widths, 4) == 0
 }
 
@@ -133,29 +144,4 @@ fn layout_of(file: &[u8]) -> Layout
         characters,
         widths: characters + 4 * codes,
     }
-}
-
-// Whether each code's word begins with a width index below the limit.
-fn indexes_below(file: &[u8], from: usize, n: usize, limit: usize) -> bool
-    requires { from + 4 * n ≤ length file.now }
-    ensures { result ≡ indexed file.now from n limit }
-{
-    each_word(file, from, n, |first| usize::from(first) < limit)
-}
-
-// Whether each of n words begins with 0 or 255.
-fn are_fix_words(file: &[u8], from: usize, n: usize) -> bool
-    requires { from + 4 * n ≤ length file.now }
-    ensures { result ≡ fix_words file.now from n }
-{
-    each_word(file, from, n, |first| begins_fix_word(first))
-}
-
-// Whether the first byte of each of n words from a place on passes.
-fn each_word<F: Fn(u8) -> bool>(file: &[u8], from: usize, n: usize, passes: F) -> bool
-    requires callable { F.IsAlwaysCallable passes }
-    requires room { from + 4 * n ≤ length file.now }
-    ensures { (test : ℕ → Bool) → ((x : ℕ) (b : Bool) → F.post passes x b → b ≡ test x) → result ≡ every (λ i. test (slice_index file.now (from + 4 * i))) n }
-{
-    (0..n).all(|i| passes(file[from + 4 * i]))
 }

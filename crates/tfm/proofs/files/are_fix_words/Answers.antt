@@ -1,6 +1,0 @@
-use Rattle.std.proofs.Common.{rules}
-use Rattle.numbers.specs.FixWords.{begins_fix_word}
-use Rattle.tfm.proofs.files.are_fix_words.Goals as goal
-
-pub returns : goal.returns
-returns c = c.each_word.ensures begins_fix_word (λ x b q. search rules)

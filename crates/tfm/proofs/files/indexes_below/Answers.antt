@@ -1,5 +1,0 @@
-use Rattle.std.proofs.Common.{rules, ltb}
-use Rattle.tfm.proofs.files.indexes_below.Goals as goal
-
-pub returns : goal.returns
-returns c = c.each_word.ensures (λ x. ltb x c.args.limit) (λ x b q. search rules)
