@@ -15,7 +15,7 @@ pub struct Entry {
 }
 
 // A refusal, or want of memory, which has no number.
-#[derive(Clone, Copy)]
+#[derive(Clone, Copy, Debug, Eq, PartialEq)]
 pub enum NotMade {
     Refused(Refusal),
     NoMemory,
