@@ -1,7 +1,7 @@
 -- A TFM shelf is a lawful shelf. Assumes nothing.
 use Rattle.std.specs.Prelude.{◌≡◌, ℕ, zero, suc, ◌+◌, ◌-◌, ◌*◌, ◌<◌, ◌≤◌, Bool, true, false, cond, ◌&&◌, List, [], ◌∷◌, map, length, ℤ, is_some, Some, None, Ok, Err, Option, Result, ◌==◌, nat_le, nat_lt, slice_index, slice_index_or, refl}
 use Rattle.std.proofs.Common.{sym, ap, ◌∙◌, subst, arith}
-use Rattle.std.proofs.lemmas.List.{length-map, length-take-le}
+use Rattle.std.proofs.lemmas.List.{length-map}
 use Rattle.std.proofs.lemmas.Int.{ints}
 use Rattle.std.proofs.lemmas.Bool.{ltb-true, and_parts}
 use Rattle.std.specs.List.{AllByRecursion, slice_get}
@@ -15,7 +15,6 @@ use Rattle.shelf.specs.Alone.{name_of}
 use Rattle.shelf.specs.Laws.{GoodFace, GoodFacts, GoodOutcome, Lawful}
 use Rattle.shelf.specs.Meaning.{FaceMeaning, called, started, face_outcome, width_in}
 use Rattle.shelf.specs.Names.{GoodName, found_in}
-use Rattle.shelf.specs.Spelling.{spelled}
 use Rattle.shelf.specs.FaceLaws.{named}
 use Rattle.shelf.specs.Finding.{apart_distinct, found_distinct}
 use Rattle.shelf.specs.Served.{called-fault, called_runs}
@@ -50,12 +49,9 @@ wide bytes o size code w e = by (nat_le o.first code && nat_lt code (o.first + o
     by true p q = indexed (ltb-true code (o.first + o.count) (and_parts (nat_le o.first code) (nat_lt code (o.first + o.count)) p).1) (index == 0) q
     by false p q = cc
 
-spelled-length : (f : TfmFace) → length (spelled f.name) ≡ f.name.count
-spelled-length f = length-take-le f.name.count f.name.bytes (omega arith)
-
 good-names : (fs : List TfmFace) → AllByRecursion GoodName (face_names fs)
 good-names [] = tt
-good-names (f ∷ fs) = let n = spelled-length f in ((omega (arith, n), omega (arith, n)), good-names fs)
+good-names (f ∷ fs) = ((omega arith, omega arith), good-names fs)
 
 module _ (bytes : List ℕ) where
   -- a face of the meaning is a face of the shelf
