@@ -77,8 +77,8 @@ impl Reader {
         }
     }
 
-    // The item at `at`; answers the place after it. That it lies further on, in the file, is no fact of a value alone,
-    // so the three clauses below say it.
+    // The item at `at`; answers the place after it. That it lies further on and in the file is a fact of two values,
+    // which no type here holds, so that `item`, `define` and `pack` each say it.
     fn item<S: Shelf>(&mut self, below: &S, file: &[u8], at: usize) -> Result<usize, Refusal>
         requires { at < length file.now }
         ensures is { (reading_of self.new, result) ≡ item (S.means below.now).names file.now at (reading_of self.old) }
