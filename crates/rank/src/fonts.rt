@@ -2,7 +2,7 @@
 use shelf::Name;
 use vf::Vf;
 
-#[derive(Clone, Copy)]
+#[derive(Drop)]
 pub struct Font {
     pub name: Name,
     pub start: usize,

@@ -1,6 +1,7 @@
 -- A TFM file as a function of its bytes: twelve counts of two bytes, and then words of four.
-use Rattle.std.specs.Prelude.{ℕ, zero, suc, ◌+◌, ◌-◌, ◌*◌, ◌^◌, ◌<◌, ◌≤◌, Bool, true, ◌&&◌, ◌||◌, List, length, ◌==◌, nat_le, nat_lt, slice_index}
+use Rattle.std.specs.Prelude.{ℕ, zero, suc, ◌+◌, ◌-◌, ◌*◌, ◌^◌, ◌<◌, ◌≤◌, Bool, true, ◌&&◌, List, length, ◌==◌, nat_le, nat_lt, slice_index}
 use Rattle.numbers.specs.Bytes.{number}
+use Rattle.numbers.specs.FixWords.{begins_fix_word}
 
 -- the counts that the rest depends on: words in the file, header words, first and last code, widths
 abbrev pub lf : List ℕ → ℕ
@@ -57,9 +58,6 @@ every p (suc n) = every p n && p n
 -- each code's word begins with a width index below nw
 abbrev pub indexed : List ℕ → ℕ → ℕ → ℕ → Bool
 indexed f from n limit = every (λ i. nat_lt (slice_index f (from + 4 * i)) limit) n
-
-abbrev pub begins_fix_word : ℕ → Bool
-begins_fix_word first = first == 0 || first == 255
 
 -- each of n words is a fix_word
 abbrev pub fix_words : List ℕ → ℕ → ℕ → Bool

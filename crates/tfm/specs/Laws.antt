@@ -1,7 +1,7 @@
 -- A TFM shelf is a lawful shelf. Assumes nothing.
 use Rattle.std.specs.Prelude.{◌≡◌, ℕ, zero, suc, ◌+◌, ◌-◌, ◌*◌, ◌<◌, ◌≤◌, Bool, true, false, cond, ◌&&◌, List, [], ◌∷◌, map, length, ℤ, is_some, Some, None, Ok, Err, Option, Result, ◌==◌, nat_le, nat_lt, slice_index, slice_index_or, refl}
 use Rattle.std.proofs.Common.{sym, ap, ◌∙◌, subst, arith}
-use Rattle.std.proofs.lemmas.List.{length-map, length-take-le}
+use Rattle.std.proofs.lemmas.List.{length-map}
 use Rattle.std.proofs.lemmas.Int.{ints}
 use Rattle.std.proofs.lemmas.Bool.{ltb-true, and_parts}
 use Rattle.std.specs.List.{AllByRecursion, slice_get}
@@ -15,7 +15,6 @@ use Rattle.shelf.specs.Alone.{name_of}
 use Rattle.shelf.specs.Laws.{GoodFace, GoodFacts, GoodOutcome, Lawful}
 use Rattle.shelf.specs.Meaning.{FaceMeaning, called, started, face_outcome, width_in}
 use Rattle.shelf.specs.Names.{GoodName, found_in}
-use Rattle.shelf.specs.Spelling.{spelled}
 use Rattle.shelf.specs.FaceLaws.{named}
 use Rattle.shelf.specs.Finding.{apart_distinct, found_distinct}
 use Rattle.shelf.specs.Served.{called-fault, called_runs}
@@ -32,9 +31,6 @@ pub record Wide (o : Outline) (size code : ℕ) (w : ℤ) : Type 0 where
   pub word : ℕ
   pub is : scaled size word ≡ Some w
 
-absent : {X : Type 0} (w : ℤ) → ◌≡◌ {A = Option ℤ} None (Some w) → X
-absent w q = absurd (let z : ◌≡◌ {A = ℕ} 0 1 = cc in omega arith)
-
 wide : (bytes : List ℕ) (o : Outline) (size code : ℕ) (w : ℤ) → width_of bytes o size code ≡ Some w → Wide o size code w
 wide bytes o size code w e = by (nat_le o.first code && nat_lt code (o.first + o.count)) refl e
   where
@@ -43,22 +39,19 @@ wide bytes o size code w e = by (nat_le o.first code && nat_lt code (o.first + o
 
     worded : code < o.first + o.count → (n : Option ℕ) → scaled_word size n ≡ Some w → Wide o size code w
     worded l (Some n) q = record { within = l; word = n; is = q }
-    worded l None q = absent w q
+    worded l None q = cc
 
     indexed : code < o.first + o.count → (b : Bool) → cond b None (scaled_word size (number_at bytes (o.widths + 4 * index) 4)) ≡ Some w → Wide o size code w
-    indexed l true q = absent w q
+    indexed l true q = cc
     indexed l false q = worded l (number_at bytes (o.widths + 4 * index) 4) q
 
     by : (b : Bool) → (nat_le o.first code && nat_lt code (o.first + o.count)) ≡ b → cond b (by_index bytes o size (slice_index bytes (o.characters + 4 * (code - o.first)))) None ≡ Some w → Wide o size code w
     by true p q = indexed (ltb-true code (o.first + o.count) (and_parts (nat_le o.first code) (nat_lt code (o.first + o.count)) p).1) (index == 0) q
-    by false p q = absent w q
-
-spelled-length : (f : TfmFace) → length (spelled f.name) ≡ f.name.count
-spelled-length f = length-take-le f.name.count f.name.bytes (omega arith)
+    by false p q = cc
 
 good-names : (fs : List TfmFace) → AllByRecursion GoodName (face_names fs)
 good-names [] = tt
-good-names (f ∷ fs) = let n = spelled-length f in ((omega (arith, n), omega (arith, n)), good-names fs)
+good-names (f ∷ fs) = ((omega arith, omega arith), good-names fs)
 
 module _ (bytes : List ℕ) where
   -- a face of the meaning is a face of the shelf
@@ -67,7 +60,7 @@ module _ (bytes : List ℕ) where
     pub is : face_of bytes (outline_of face) ≡ m
 
   kept : (fs : List TfmFace) (k : ℕ) (m : FaceMeaning) → slice_get (map (face_of bytes) (map outline_of fs)) k ≡ Some m → Kept fs k m
-  kept [] k m e = absurd (let z : ◌≡◌ {A = ℕ} 0 1 = cc in omega arith)
+  kept [] k m e = cc
   kept (f ∷ fs) zero m e = record { face = f; is = cc }
   kept (f ∷ fs) (suc k) m e = let i = kept fs k m e in record { face = i.face; is = i.is }
 

@@ -1,5 +1,9 @@
 // What a TFM shelf is made from, and why it may not be made.
+ghost use Rattle.std.specs.Prelude.{◌≡◌};
+ghost use Rattle.tfm.specs.declared.entries.NotMade.TheVariants.{Refused, NoMemory};
+
 use shelf::Refusal;
+use std::alloc::AllocError;
 
 // Where a face's name and its TFM file stand in the bytes.
 #[derive(Clone, Copy)]
@@ -11,8 +15,24 @@ pub struct Entry {
 }
 
 // A refusal, or want of memory, which has no number.
-#[derive(Clone, Copy)]
+#[derive(Clone, Copy, Debug, Eq, PartialEq)]
 pub enum NotMade {
     Refused(Refusal),
     NoMemory,
+}
+
+impl From<Refusal> for NotMade {
+    ghost from_gives = { λ e r. r ≡ Refused e };
+
+    fn from(e: Refusal) -> NotMade {
+        NotMade::Refused(e)
+    }
+}
+
+impl From<AllocError> for NotMade {
+    ghost from_gives = { λ _ r. r ≡ NoMemory };
+
+    fn from(_: AllocError) -> NotMade {
+        NotMade::NoMemory
+    }
 }

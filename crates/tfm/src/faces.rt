@@ -3,7 +3,7 @@ ghost use Rattle.std.specs.Prelude.{◌+◌, ◌^◌, ◌<◌, ◌≤◌};
 
 use shelf::Name;
 
-#[derive(Clone, Copy)]
+#[derive(Drop)]
 pub struct TfmFace {
     pub name: Name,
     pub checksum: u32,

@@ -8,6 +8,7 @@ mod making;
 mod naming;
 mod serving;
 mod shelves;
+mod words;
 
 pub use entries::{Entry, NotMade};
 pub use shelves::TfmShelf;

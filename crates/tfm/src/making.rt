@@ -1,20 +1,19 @@
 // A TFM shelf made from bytes and entries, each checked in its turn.
-ghost use Rattle.std.specs.Prelude.{◌≡◌, ◌+◌, ◌^◌, ◌≤◌, true, map, length, IfOk, None, nat_le};
+ghost use Rattle.std.specs.Prelude.{◌≡◌, ◌+◌, ◌≤◌, map, length, IfSome, IfOk, if◌then◌else◌, Some, None, nat_le};
+ghost use Rattle.std.specs.Option.{option_map};
 ghost use Rattle.shelf.specs.Names.{found_in};
 ghost use Rattle.shelf.specs.Spelling.{spelled};
-ghost use Rattle.tfm.specs.Files.{Fit};
-ghost use Rattle.tfm.specs.Making.{inside, entered, Made};
+ghost use Rattle.tfm.specs.Making.{slice, entered, Made};
 ghost use Rattle.tfm.specs.Listing.{outline_in, Listed};
-ghost use Rattle.tfm.specs.Outlines.{outlined, outline_of};
+ghost use Rattle.tfm.specs.Outlines.{outline_of};
 ghost use Rattle.tfm.specs.Unlike.{face_names};
 
 use crate::entries::{Entry, NotMade};
 use crate::faces::TfmFace;
-use crate::files::{CHECKSUM_PLACE, DESIGN_PLACE, four, is_tfm, layout_of};
+use crate::files::TfmFile;
 use crate::naming::new_name;
 use crate::shelves::TfmShelf;
-use numbers::part;
-use shelf::{Name, Refusal};
+use shelf::Refusal;
 use std::alloc::Global;
 
 const MAX_ENTRIES: usize = 32;
@@ -30,26 +29,21 @@ impl TfmShelf {
             return Err(NotMade::Refused(Refusal::ShelfFull));
         }
         let faces = faces_of(bytes, entries, heap)?;
-        match Vec::from_slice(heap, bytes) {
-            Ok(bytes) => Ok(TfmShelf { bytes, faces }),
-            Err(_) => Err(NotMade::NoMemory),
-        }
+        let bytes = Vec::from_slice(heap, bytes)?;
+        Ok(TfmShelf { bytes, faces })
     }
 }
 
 // The faces that the entries give, one after the other.
 fn faces_of(bytes: &[u8], entries: &[Entry], heap: Global) -> Result<Vec<TfmFace>, NotMade>
-    requires { (length entries.now ≤ 32) × (length bytes.now ≤ 1048576) }
+    requires few { length entries.now ≤ 32 }
+    requires short { length bytes.now ≤ 1048576 }
     ensures { Listed bytes.now entries.now result }
 {
-    let Ok(mut faces) = Vec::with_capacity(heap, entries.len()) else {
-        return Err(NotMade::NoMemory);
-    };
+    let mut faces = Vec::with_capacity(heap, entries.len())?;
     for (k, e) in entries.iter().enumerate() {
-        match face_of(bytes, faces.as_slice(), k, e) {
-            Ok(f) => faces.push_reserved(f),
-            Err(r) => return Err(NotMade::Refused(r)),
-        }
+        let face = face_of(bytes, faces.as_slice(), k, e)?;
+        faces.push_reserved(face);
     }
     Ok(faces)
 }
@@ -60,46 +54,18 @@ fn face_of(bytes: &[u8], seen: &[TfmFace], k: usize, e: &Entry) -> Result<TfmFac
     ensures is { outline_in result ≡ entered bytes.now (map outline_of seen.now) k e.now }
     ensures fresh { IfOk result (λ f. found_in (face_names seen.now) (spelled f.name) ≡ None) }
 {
-    if !reaches_inside(bytes, e) {
-        return Err(Refusal::BrokenTfm { entry: k });
-    }
-    let Some(name) = new_name(seen, part(bytes, e.name_place, e.name_length)) else {
-        return Err(Refusal::TfmName { entry: k });
-    };
-    let file = part(bytes, e.file_place, e.file_length);
-    if !is_tfm(file) {
-        return Err(Refusal::BrokenTfm { entry: k });
-    }
-    Ok(outline(name, e.file_place, file))
+    let broken = Refusal::BrokenTfm { entry: k };
+    let name = bytes_at(bytes, e.name_place, e.name_length).ok_or(broken)?;
+    let file = bytes_at(bytes, e.file_place, e.file_length).ok_or(broken)?;
+    let name = new_name(seen, name).ok_or(Refusal::TfmName { entry: k })?;
+    let file = TfmFile::new(file).ok_or(broken)?;
+    Ok(file.face(name, e.file_place))
 }
 
-fn reaches_inside(bytes: &[u8], e: &Entry) -> bool
-    ensures is { result ≡ inside bytes.now e.now }
-    ensures place { result ≡ true → e.now.file_place ≤ length bytes.now }
+// The n bytes from a place on; none where they reach outside.
+fn bytes_at(bytes: &[u8], place: usize, n: usize) -> Option<&[u8]>
+    ensures is { option_map (λ s. s.now) result ≡ (if nat_le (place + n) (length bytes.now) then Some (slice bytes.now place n) else None) }
+    ensures inside { IfSome result (λ s. place + length s.now ≤ length bytes.now) }
 {
-    let n = bytes.len();
-    fits(e.name_place, e.name_length, n) && fits(e.file_place, e.file_length, n)
-}
-
-fn fits(place: usize, count: usize, n: usize) -> bool
-    ensures { result ≡ nat_le (place + count) n }
-{
-    place <= n && count <= n - place
-}
-
-// What is kept of a file that stands at a place.
-fn outline(name: Name, place: usize, file: &[u8]) -> TfmFace
-    requires { (Fit file.now) × (place ≤ 1048576) }
-    ensures { outline_of result ≡ outlined (spelled name) place file.now }
-{
-    let layout = layout_of(file);
-    TfmFace {
-        name,
-        checksum: four(file, CHECKSUM_PLACE),
-        design: four(file, DESIGN_PLACE),
-        first: layout.first,
-        count: layout.codes,
-        characters: place + layout.characters,
-        widths: place + layout.widths,
-    }
+    bytes.get(place..)?.get(..n)
 }

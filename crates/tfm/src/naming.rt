@@ -1,5 +1,5 @@
 // Faces by name.
-ghost use Rattle.std.specs.Prelude.{◌≡◌, ◌<◌, map, length, IfSome, if◌then◌else◌, Some, None};
+ghost use Rattle.std.specs.Prelude.{◌≡◌, map, IfSome, if◌then◌else◌, Some, None};
 ghost use Rattle.std.specs.Option.{option_map};
 ghost use Rattle.std.specs.Str.{bytes_eq};
 ghost use Rattle.shelf.specs.Names.{found_in};
@@ -20,22 +20,11 @@ impl<'k> Keyed<&'k [u8]> for TfmFace {
     }
 }
 
-// The first face that bears the name.
-pub(crate) fn face_named(faces: &[TfmFace], name: &[u8]) -> Option<usize>
-    ensures first { result ≡ found_in (face_names faces.now) name.now }
-    ensures within { IfSome result (λ k. k < length faces.now) }
-{
-    first_match(faces, name)
-}
-
 // The name that a new face is given; none where it has not 1 to 63 bytes, or a face bears it already.
 pub(crate) fn new_name(faces: &[TfmFace], bytes: &[u8]) -> Option<Name>
     ensures is { option_map spelled result ≡ (if free (map outline_of faces.now) bytes.now then Some bytes.now else None) }
     ensures fresh { IfSome result (λ n. found_in (face_names faces.now) (spelled n) ≡ None) }
 {
     let name = Name::new(bytes)?;
-    match face_named(faces, bytes) {
-        None => Some(name),
-        Some(_) => None,
-    }
+    first_match(faces, bytes).is_none().then_some(name)
 }

@@ -1,5 +1,5 @@
 // The TFM shelf as a shelf: font k is face k, and makes one glyph.
-ghost use Rattle.std.specs.Prelude.{◌≡◌, map, pos, negsuc, ◌≤ℤ◌, IfSome, slice_index};
+ghost use Rattle.std.specs.Prelude.{◌≡◌, map};
 ghost use Rattle.tfm.specs.Meaning.{tfm_meaning};
 ghost use Rattle.tfm.specs.Outlines.{outline_of};
 ghost use Rattle.tfm.specs.Widths.{width_of};
@@ -8,10 +8,9 @@ ghost use Rattle.shelf.specs.Finding.{apart_distinct};
 ghost use Rattle.tfm.specs.Unlike.{face_names};
 
 use crate::faces::TfmFace;
-use crate::naming::face_named;
 use crate::shelves::TfmShelf;
-use numbers::{scale, unsigned_at};
-use shelf::{Cause, Count, Face, Link, Mark, Refusal, Shelf, put_mark, start};
+use numbers::{first_match, number, scale, unsigned_at};
+use shelf::{Asked, Cause, Count, Face, Link, Mark, Refusal, Shelf, put_mark};
 
 impl Shelf for TfmShelf {
     ghost means = { λ s. tfm_meaning s.bytes.items (map outline_of s.faces.items) };
@@ -29,83 +28,48 @@ impl Shelf for TfmShelf {
     }
 
     fn find(&self, name: &[u8]) -> Option<u16> {
-        match face_named(self.faces.as_slice(), name) {
-            Some(k) => Some(k as u16),
-            None => None,
-        }
+        first_match(self.faces.as_slice(), name).map(|k| k as u16)
     }
 
     fn face(&self, k: u16) -> Option<Face<'_>> {
-        if (k as usize) < self.faces.len() {
-            let f = &self.faces[k as usize];
-            return Some(Face {
-                name: f.name.as_slice(),
-                checksum: f.checksum,
-                design: f.design,
-            });
-        }
-        None
+        self.faces.get(usize::from(k)).map(|f| Face {
+            name: f.name.as_slice(),
+            checksum: f.checksum,
+            design: f.design,
+        })
     }
 
     fn character(
         &self,
-        font: u16,
-        size: u32,
-        code: u8,
-        h: i64,
-        v: i64,
+        asked: Asked,
         chain: &mut [Link],
         marks: &mut [Mark],
     ) -> Result<(usize, i64), Refusal> {
-        let (h, v) = match start(self.faces.len() as u16, font, size, h, v) {
-            Ok(point) => point,
-            Err(cause) => return Err(Refusal::Fault { cause, links: 0 }),
+        let (h, v) = asked.start(self.count().fonts)?;
+        let face = &self.faces[usize::from(asked.font)];
+        let w = width(self.bytes.as_slice(), face, asked.size, asked.code).ok_or(Cause::NoCode)?;
+        let mark = Mark::Glyph {
+            face: asked.font,
+            size: asked.size,
+            code: asked.code,
+            h,
+            v,
         };
-        match width(
-            self.bytes.as_slice(),
-            &self.faces[font as usize],
-            size,
-            code,
-        ) {
-            Some(w) => put_mark(
-                Mark::Glyph {
-                    face: font,
-                    size,
-                    code,
-                    h,
-                    v,
-                },
-                w,
-                marks,
-            ),
-            None => Err(Refusal::Fault {
-                cause: Cause::NoCode,
-                links: 0,
-            }),
-        }
+        put_mark(mark, i64::from(w), marks)
     }
 }
 
 // The width of a code at a size; none where the face lacks it.
-fn width(bytes: &[u8], face: &TfmFace, size: u32, code: u8) -> Option<i64>
-    ensures value { result ≡ width_of bytes.now (outline_of face.now) size code }
-    ensures bound { IfSome result (λ z. (negsuc 2147483647 ≤ℤ z) × (z ≤ℤ pos 2147483647)) }
+fn width(bytes: &[u8], face: &TfmFace, size: u32, code: u8) -> Option<i32>
+    ensures { result ≡ width_of bytes.now (outline_of face.now) size code }
 {
     let code = usize::from(code);
-    if code < face.first || code >= face.first + face.count {
+    if !(face.first..face.first + face.count).contains(&code) {
         return None;
     }
-    let index = byte_at(bytes, face.characters + 4 * (code - face.first));
+    let index = number(bytes, face.characters + 4 * (code - face.first), 1) as usize;
     if index == 0 {
         return None;
     }
-    let word = unsigned_at(bytes, face.widths + 4 * usize::from(index), 4)?;
-    scale(word, size)
-}
-
-// The byte at a place, 0 past the end.
-fn byte_at(bytes: &[u8], place: usize) -> u8
-    ensures { result ≡ slice_index bytes.now place }
-{
-    if place < bytes.len() { bytes[place] } else { 0 }
+    scale(unsigned_at(bytes, face.widths + 4 * index, 4)?, size)
 }

@@ -1,12 +1,13 @@
 -- A packet at a place: its length, its code and its width, then its bytes. It begins with 242 where each of the
 -- three has four bytes, and otherwise with its length in one byte, the code in one and the width in three.
-use Rattle.std.specs.Prelude.{ℕ, ◌+◌, ◌/◌, ◌^◌, Bool, cond, ◌||◌, List, length, Some, None, Option, ◌==◌, nat_le, slice_index}
+use Rattle.std.specs.Prelude.{ℕ, ◌+◌, ◌/◌, ◌^◌, Bool, cond, List, length, Some, None, Option, ◌==◌, nat_le, slice_index}
 use Rattle.numbers.specs.Bytes.{number}
+use Rattle.numbers.specs.FixWords.{begins_fix_word}
 use Rattle.vf.specs.declared.packets.Coded.{Coded}
 
 -- the first of the four bytes is 0 or 255
 abbrev pub fix_word : ℕ → Bool
-fix_word n = n / 2 ^ 24 == 0 || n / 2 ^ 24 == 255
+fix_word n = begins_fix_word (n / 2 ^ 24)
 
 -- a packet with n bytes from a place on
 abbrev pub held : List ℕ → ℕ → ℕ → ℕ → ℕ → Option Coded

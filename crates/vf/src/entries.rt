@@ -1,7 +1,7 @@
 // What the tables of a VF file hold.
 
 // A local font: its number, the font below, and its size as a fix_word's four bytes.
-#[derive(Clone, Copy)]
+#[derive(Clone, Copy, Default)]
 pub struct Local {
     pub number: u32,
     pub font: u16,

@@ -1,15 +1,12 @@
 // A packet, read at a place.
 ghost use Rattle.std.specs.Prelude.{◌≡◌, ◌+◌, ◌<◌, ◌≤◌, length, IfSome};
-ghost use Rattle.numbers.specs.Bytes.{number};
-ghost use Rattle.vf.specs.Packets.{fix_word, held, short, long, packet_at};
+ghost use Rattle.vf.specs.Packets.{held, long, packet_at};
 
 use crate::entries::Packet;
-use numbers::unsigned_at;
+use numbers::{begins_fix_word, number};
 
 // This byte begins a packet whose length, code and width have four bytes each.
 const LONG: u8 = 242;
-
-const MAX_CODE: u32 = 255;
 
 // A packet with its code.
 #[derive(Clone, Copy)]
@@ -20,62 +17,44 @@ pub(crate) struct Coded {
 
 // The packet that begins at `at`; none where the file ends before it does, or where it is none.
 pub(crate) fn packet_at(file: &[u8], at: usize) -> Option<Coded>
-    requires { at < length file.now }
     ensures is { result ≡ packet_at file.now at }
-    ensures within { IfSome result (λ k. (at < k.packet.start) × (k.packet.start + k.packet.length ≤ length file.now)) }
+    ensures after { IfSome result (λ k. at < k.packet.start) }
+    ensures within { IfSome result (λ k. k.packet.start + k.packet.length ≤ length file.now) }
 {
-    if file[at] == LONG {
-        long_packet(file, at)
-    } else {
-        short_packet(file, at)
+    match file.get(at..)? {
+        [LONG, ..] => long_packet(file, at),
+        [n, code, _, _, _, ..] => {
+            let width = number(file, at + 2, 3);
+            hold(file, *code, at + 5, usize::from(*n), width)
+        }
+        _ => None,
     }
 }
 
-// One that begins with its length in one byte.
-fn short_packet(file: &[u8], at: usize) -> Option<Coded>
-    requires { at < length file.now }
-    ensures is { result ≡ short file.now at }
-    ensures within { IfSome result (λ k. (at < k.packet.start) × (k.packet.start + k.packet.length ≤ length file.now)) }
-{
-    if file.len() - at < 5 {
-        return None;
-    }
-    let width = number_at(file, at + 2, 3);
-    hold(file, file[at + 1], at + 5, usize::from(file[at]), width)
-}
-
+// One that has four bytes for each of its length, its code and its width.
 fn long_packet(file: &[u8], at: usize) -> Option<Coded>
-    requires { at < length file.now }
     ensures is { result ≡ long file.now at }
-    ensures within { IfSome result (λ k. (at < k.packet.start) × (k.packet.start + k.packet.length ≤ length file.now)) }
+    ensures after { IfSome result (λ k. at < k.packet.start) }
+    ensures within { IfSome result (λ k. k.packet.start + k.packet.length ≤ length file.now) }
 {
-    if file.len() - at < 13 {
+    let [_, _, _, _, _, _, _, _, _, first, _, _, _, ..] = file.get(at..)? else {
+        return None;
+    };
+    if !begins_fix_word(*first) {
         return None;
     }
-    let code = number_at(file, at + 5, 4);
-    if code > MAX_CODE {
-        return None;
-    }
-    let width = number_at(file, at + 9, 4);
-    if !is_fix_word(width) {
-        return None;
-    }
-    hold(
-        file,
-        code as u8,
-        at + 13,
-        number_at(file, at + 1, 4) as usize,
-        width,
-    )
+    let n = number(file, at + 1, 4) as usize;
+    let code = u8::try_from(number(file, at + 5, 4)).ok()?;
+    hold(file, code, at + 13, n, number(file, at + 9, 4))
 }
 
-// A packet with n bytes from `start` on.
+// A packet with n bytes from `start` on; none where the file ends before they do.
 fn hold(file: &[u8], code: u8, start: usize, n: usize, width: u32) -> Option<Coded>
-    requires { start ≤ length file.now }
     ensures is { result ≡ held file.now code start n width }
-    ensures within { IfSome result (λ k. (k.packet.start ≡ start) × (k.packet.start + k.packet.length ≤ length file.now)) }
+    ensures start { IfSome result (λ k. k.packet.start ≡ start) }
+    ensures within { IfSome result (λ k. k.packet.start + k.packet.length ≤ length file.now) }
 {
-    if file.len() - start < n {
+    if file.get(start..)?.len() < n {
         return None;
     }
     Some(Coded {
@@ -86,23 +65,4 @@ fn hold(file: &[u8], code: u8, start: usize, n: usize, width: u32) -> Option<Cod
             width,
         },
     })
-}
-
-// Whether the first of four bytes is 0 or 255.
-fn is_fix_word(word: u32) -> bool
-    ensures { result ≡ fix_word word }
-{
-    let first = word / 16_777_216;
-    first == 0 || first == 255
-}
-
-// The number in 1 to 4 bytes that stand in the file.
-fn number_at(file: &[u8], place: usize, width: usize) -> u32
-    requires { (1 ≤ width) × ((width ≤ 4) × (place + width ≤ length file.now)) }
-    ensures is { result ≡ number file.now place width }
-{
-    match unsigned_at(file, place, width) {
-        Some(n) => n,
-        None => 0,
-    }
 }

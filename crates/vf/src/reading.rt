@@ -1,6 +1,6 @@
 // A VF file read front to back over a shelf below.
 ghost use Rattle.std.specs.Prelude.{◌≡◌, ◌+◌, ◌-◌, ◌<◌, ◌≤◌, length, IfSome, IfOk};
-ghost use Rattle.vf.specs.Files.{positive, reading_of, fresh, opened, defined, packed, item, walk, walked, vf_in, vf_of};
+ghost use Rattle.vf.specs.Files.{positive, reading_of, fresh, opened, defined, packed, item, walk, vf_in, vf_of};
 
 use crate::entries::Local;
 use crate::packets::packet_at;
@@ -16,23 +16,21 @@ pub(crate) enum Phase {
     Ending,
 }
 
-// The tables as far as the file has been read.
-#[derive(Clone, Copy)]
+// The tables as far as the file has been read. The file and the place in it are handed down: if the reader held them,
+// each clause would have to say that the file stays.
+#[derive(Drop)]
 pub(crate) struct Reader {
     phase: Phase,
     vf: Vf,
 }
 
 // The tables of a VF file whose local fonts are found below, or the first refusal.
+#[tactic(auto, unfolding(crate::specs::Files::vf_of))]
 pub fn read_vf<S: Shelf>(below: &S, file: &[u8]) -> Result<Vf, Refusal>
     ensures { vf_in result ≡ vf_of (S.means below.now).names file.now }
 {
-    let Some(start) = first_item(file) else {
-        return Err(Refusal::BrokenVf { place: 0 });
-    };
-    let mut reader = Reader::new();
-    reader.items(below, file, start)?;
-    Ok(reader.vf)
+    let start = first_item(file).ok_or(Refusal::BrokenVf { place: 0 })?;
+    Reader::new().items(below, file, start)
 }
 
 // The place after the preamble: 247 202, a length byte, a comment as long, check sum and design size.
@@ -44,18 +42,14 @@ fn first_item(file: &[u8]) -> Option<usize>
         return None;
     };
     let start = usize::from(*n) + 11;
-    if start <= file.len() {
-        Some(start)
-    } else {
-        None
-    }
+    (start <= file.len()).then_some(start)
 }
 
 // Whether four bytes are a fix_word above 0, whose first byte is then 0.
 fn is_positive(word: u32) -> bool
     ensures { result ≡ positive word }
 {
-    0 < word && word < 16_777_216
+    (1..16_777_216).contains(&word)
 }
 
 impl Reader {
@@ -69,34 +63,33 @@ impl Reader {
     }
 
     // Item by item to the end of the file.
-    fn items<S: Shelf>(&mut self, below: &S, file: &[u8], start: usize) -> Result<(), Refusal>
+    fn items<S: Shelf>(mut self, below: &S, file: &[u8], start: usize) -> Result<Vf, Refusal>
         requires { start ≤ length file.now }
-        ensures { walked (reading_of self.new) result ≡ walk (S.means below.now).names file.now 0 start (length file.now - start) (reading_of self.old) }
+        ensures { vf_in result ≡ walk (S.means below.now).names file.now 0 start (length file.now - start) (reading_of self) }
     {
         let mut at = start;
         while at < file.len() {
             at = self.item(below, file, at)?;
         }
         match self.phase {
-            Phase::Ending => Ok(()),
+            Phase::Ending => Ok(self.vf),
             _ => Err(Refusal::BrokenVf { place: at }),
         }
     }
 
-    // The item at `at`; answers the place after it.
+    // The item at `at`; answers the place after it. That it lies further on and in the file is a fact of two values,
+    // which no type here holds, so that `item`, `define` and `pack` each say it.
     fn item<S: Shelf>(&mut self, below: &S, file: &[u8], at: usize) -> Result<usize, Refusal>
         requires { at < length file.now }
         ensures is { (reading_of self.new, result) ≡ item (S.means below.now).names file.now at (reading_of self.old) }
-        ensures on { IfOk result (λ n. (at < n) × (n ≤ length file.now)) }
+        ensures on { IfOk result (λ n. at < n) }
+        ensures within { IfOk result (λ n. n ≤ length file.now) }
     {
         match (file[at], self.phase) {
             (0..=242, Phase::Definitions | Phase::Packets) => self.pack(file, at),
-            (243..=246, Phase::Definitions) => self.define(
-                below,
-                file,
-                at,
-                usize::from(file[at]) - 242,
-            ),
+            (op @ 243..=246, Phase::Definitions) => {
+                self.define(below, file, at, usize::from(op) - 242)
+            }
             (248, _) => {
                 self.phase = Phase::Ending;
                 Ok(at + 1)
@@ -113,25 +106,19 @@ impl Reader {
         at: usize,
         width: usize,
     ) -> Result<usize, Refusal>
-        requires { at < length file.now }
         ensures is { (reading_of self.new, result) ≡ defined (S.means below.now).names file.now at width (reading_of self.old) }
-        ensures on { IfOk result (λ n. (at < n) × (n ≤ length file.now)) }
+        ensures on { IfOk result (λ n. at < n) }
+        ensures within { IfOk result (λ n. n ≤ length file.now) }
     {
+        let broken = Refusal::BrokenVf { place: at };
         if self.vf.is_full() {
-            return Err(Refusal::BrokenVf { place: at });
+            return Err(broken);
         }
-        let Some(d) = definition_at(file, at, width) else {
-            return Err(Refusal::BrokenVf { place: at });
-        };
-        if !is_positive(d.size) {
-            return Err(Refusal::BrokenVf { place: at });
+        let d = definition_at(file, at, width).ok_or(broken)?;
+        if !is_positive(d.size) || self.vf.local(d.number).is_some() {
+            return Err(broken);
         }
-        if let Some(_) = self.vf.local(d.number) {
-            return Err(Refusal::BrokenVf { place: at });
-        }
-        let Some(font) = below.find(d.name) else {
-            return Err(Refusal::NotBelow { place: at });
-        };
+        let font = below.find(d.name).ok_or(Refusal::NotBelow { place: at })?;
         self.vf.add_local(Local {
             number: d.number,
             font,
@@ -142,15 +129,14 @@ impl Reader {
 
     // The packet at `at`.
     fn pack(&mut self, file: &[u8], at: usize) -> Result<usize, Refusal>
-        requires { at < length file.now }
         ensures is { (reading_of self.new, result) ≡ packed file.now at (reading_of self.old) }
-        ensures on { IfOk result (λ n. (at < n) × (n ≤ length file.now)) }
+        ensures on { IfOk result (λ n. at < n) }
+        ensures within { IfOk result (λ n. n ≤ length file.now) }
     {
-        let Some(k) = packet_at(file, at) else {
-            return Err(Refusal::BrokenVf { place: at });
-        };
-        if let Some(_) = self.vf.packet(k.code) {
-            return Err(Refusal::BrokenVf { place: at });
+        let broken = Refusal::BrokenVf { place: at };
+        let k = packet_at(file, at).ok_or(broken)?;
+        if self.vf.packet(k.code).is_some() {
+            return Err(broken);
         }
         self.vf.add_packet(k);
         self.phase = Phase::Packets;

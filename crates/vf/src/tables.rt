@@ -1,15 +1,16 @@
 // The tables of a VF file: at most 16 local fonts, in the order of their definitions, and a packet or none for each code.
-ghost use Rattle.std.specs.Prelude.{◌≡◌, ◌≤◌, length};
+ghost use Rattle.std.specs.Prelude.{◌≡◌, length};
 
 use crate::entries::{Local, Packet};
+use arrayvec::ArrayVec;
 
-#[derive(Clone, Copy)]
+// A VF file has at most so many local fonts.
+const MAX_LOCALS: usize = 16;
+
+#[derive(Drop)]
 pub struct Vf {
-    count: usize,
-    locals: [Local; 16],
+    locals: ArrayVec<Local, MAX_LOCALS>,
     packets: [Option<Packet>; 256],
-    ghost few: { count ≤ 16 },
-    ghost sixteen: { length locals ≡ 16 },
     ghost whole: { length packets ≡ 256 },
 }
 

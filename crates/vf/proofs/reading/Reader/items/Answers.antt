@@ -12,8 +12,8 @@ returns-in_err-at g c =
 
 pub loop-at-preserved : goal.loop-at-preserved
 loop-at-preserved g c =
-    let on = c.in_ok-at.ensures.on in
-    (on.1, c.loop-at.invariant.1 ∙ turn _ _ _ _ (reading_of c.loop-at.self) (reading_of c.item.new.self) c.in_ok-at.ensures.is on.0 on.1)
+    let on = c.in_ok-at.ensures in
+    (on.within, c.loop-at.invariant.1 ∙ turn _ _ _ _ (reading_of c.loop-at.self) (reading_of c.item.new.self) on.is on.on on.within)
 
 pub returns-in-Ending : goal.returns-in-Ending
 returns-in-Ending g c =
