@@ -1,6 +1,7 @@
 -- A packet's run and its character, as their calls answer them. Assumes nothing.
 use Rattle.std.proofs.Common.{◌≡◌, ℕ, ◌+◌, List, [], get_or, take, ℤ, Some, None, Ok, Err, Option, Result, sym, refl, subst}
 use Rattle.numbers.specs.FixWords.{scaled}
+use Rattle.shelf.specs.declared.asked.Asked.{Asked}
 use Rattle.shelf.specs.Answers.{Answered}
 use Rattle.shelf.specs.Meaning.{Meaning}
 use Rattle.shelf.specs.Outcomes.{Outcome, well, fault, ends, faulty, bind, link}
@@ -20,9 +21,9 @@ use Rattle.machine.proofs.Turning.{PassedOn, own_fault}
 use Rattle.vf.specs.declared.entries.Packet.{Packet}
 use Rattle.vf.specs.Fonts.{VfFont}
 use Rattle.expansion.specs.Selecting.{first_font}
-use Rattle.expansion.specs.Expanding.{Character, link_of, packet_world, start_at, packet_run, wide_run, expanded_by, expanded}
+use Rattle.expansion.specs.Expanding.{link_of, packet_world, start_at, packet_run, wide_run, expanded_by, expanded}
 
-module _ (m : Meaning) (f : VfFont) (file : List ℕ) (c : Character) where
+module _ (m : Meaning) (f : VfFont) (file : List ℕ) (c : Asked) where
   abbrev onwards : Packet → Option Chosen → Outcome (Unit {0})
   onwards p font = run_from (packet_world m f c) (take (p.start + p.length) file) p.start (start_at c font)
 

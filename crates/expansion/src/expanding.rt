@@ -3,24 +3,14 @@ ghost use Rattle.std.specs.Prelude.{◌≡◌, ◌+◌, take};
 ghost use Rattle.shelf.specs.Answers.{Answered};
 ghost use Rattle.machine.specs.Views.{counted};
 ghost use Rattle.vf.specs.Fonts.{font_of};
-ghost use Rattle.expansion.specs.Expanding.{Character, packet_run, expanded};
+ghost use Rattle.expansion.specs.Expanding.{packet_run, expanded};
 
 use crate::bodies::PacketBody;
 use crate::selecting::first_font;
-use machine::{Body, Frames, Machine, Registers, run};
+use machine::{Body, Frames, Level, Machine, Registers};
 use numbers::{part, scale};
-use shelf::{Cause, Link, Mark, Refusal, Shelf, pass_on};
+use shelf::{Asked, Cause, Link, Mark, Refusal, Shelf, pass_on};
 use vf::{Packet, Vf};
-
-// What is asked for: a character of a font by its number on the shelf, at a size, from a start point.
-#[derive(Clone, Copy)]
-pub struct Asked {
-    pub font: u16,
-    pub size: u32,
-    pub code: u8,
-    pub h: i64,
-    pub v: i64,
-}
 
 // The character of the VF file's font: the marks and faults of its packet, and the packet's width.
 pub fn expand<S: Shelf>(
@@ -31,24 +21,12 @@ pub fn expand<S: Shelf>(
     chain: &mut [Link],
     marks: &mut [Mark],
 ) -> Result<(usize, i64), Refusal>
-    ensures { Answered (expanded (S.means below.now) (font_of vf.now) file.now (record { font = asked.font; size = asked.size; code = asked.code; h = asked.h; v = asked.v })) chain.old chain.new marks.old marks.new result }
+    ensures { Answered (expanded (S.means below.now) (font_of vf.now) file.now asked) chain.old chain.new marks.old marks.new result }
 {
-    let Some(packet) = vf.packet(asked.code) else {
-        return Err(Refusal::Fault {
-            cause: Cause::NoCode,
-            links: 0,
-        });
-    };
-    let Some(width) = scale(packet.width, asked.size) else {
-        return Err(Refusal::Fault {
-            cause: Cause::BadSize,
-            links: 0,
-        });
-    };
-    match run_packet(below, vf, file, asked, packet, chain, marks) {
-        Ok(n) => Ok((n, width)),
-        Err(e) => Err(e),
-    }
+    let packet = vf.packet(asked.code).ok_or(Cause::NoCode)?;
+    let width = scale(packet.width, asked.size).ok_or(Cause::BadSize)?;
+    let n = run_packet(below, vf, file, asked, packet, chain, marks)?;
+    Ok((n, i64::from(width)))
 }
 
 // Runs a packet of the file, from its first local font on.
@@ -61,46 +39,34 @@ fn run_packet<S: Shelf>(
     chain: &mut [Link],
     marks: &mut [Mark],
 ) -> Result<usize, Refusal>
-    ensures { Answered (packet_run (S.means below.now) (font_of vf.now) file.now (record { font = asked.font; size = asked.size; code = asked.code; h = asked.h; v = asked.v }) packet) chain.old chain.new marks.old marks.new (counted result) }
+    ensures { Answered (packet_run (S.means below.now) (font_of vf.now) file.now asked packet) chain.old chain.new marks.old marks.new (counted result) }
 {
-    let body = PacketBody {
-        vf,
-        font: asked.font,
-        size: asked.size,
-        code: asked.code,
+    let body = PacketBody { vf, asked };
+    let font = match first_font(vf, asked.size) {
+        Ok(font) => font,
+        Err(cause) => return Err(pass_on(cause.into(), body.link(packet.start), chain)),
     };
-    match first_font(vf, asked.size) {
-        Ok(font) => {
-            let at = Registers {
-                h: asked.h,
-                v: asked.v,
-                w: 0,
-                x: 0,
-                y: 0,
-                z: 0,
-            };
-            let mut m = Machine {
-                at,
-                font,
-                frames: Frames::new(),
-            };
-            let bytes = front(file, packet.start, packet.length);
-            run(below, &body, bytes, packet.start, &mut m, chain, marks)
-        }
-        Err(cause) => Err(pass_on(
-            Refusal::Fault { cause, links: 0 },
-            body.link(packet.start),
-            chain,
-        )),
-    }
+    let at = Registers {
+        h: asked.h,
+        v: asked.v,
+        ..Registers::default()
+    };
+    let mut m = Machine {
+        at,
+        font,
+        frames: Frames::new(),
+    };
+    let level = Level {
+        below,
+        body: &body,
+        bytes: front(file, packet.start, packet.length),
+    };
+    level.run(packet.start, &mut m, chain, marks)
 }
 
 // The file up to a packet's end, so that places in it are the file's.
 fn front<'a>(file: &'a [u8], start: usize, length: usize) -> &'a [u8]
     ensures { result.now ≡ take (start + length) file.now }
 {
-    match start.checked_add(length) {
-        Some(end) => part(file, 0, end),
-        None => file,
-    }
+    part(file, 0, start.saturating_add(length))
 }

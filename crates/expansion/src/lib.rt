@@ -5,4 +5,4 @@ mod bodies;
 mod expanding;
 mod selecting;
 
-pub use expanding::{Asked, expand};
+pub use expanding::expand;

@@ -13,49 +13,39 @@ pub(crate) fn measure_at(size: u32, b: i64) -> Option<i64>
     ensures { result ≡ measure_at size b }
 {
     let word = complement(b, 4)?;
-    scale(word, size)
+    scale(word, size).map(i64::from)
 }
 
 // What a font number selects.
 pub(crate) fn select(vf: &Vf, size: u32, number: u32) -> Result<Chosen, Cause>
     ensures { result ≡ selects (font_of vf.now) size number }
 {
-    match vf.local(number) {
-        Some(l) => chosen_at(size, l),
-        None => Err(Cause::NoFont),
-    }
+    chosen_at(size, vf.local(number).ok_or(Cause::NoFont)?)
 }
 
 // What a packet starts with.
 pub(crate) fn first_font(vf: &Vf, size: u32) -> Result<Option<Chosen>, Cause>
     ensures { result ≡ first_font (font_of vf.now) size }
 {
-    match vf.first_local() {
-        Some(l) => match chosen_at(size, l) {
-            Ok(f) => Ok(Some(f)),
-            Err(cause) => Err(cause),
-        },
-        None => Ok(None),
-    }
+    let Some(local) = vf.first_local() else {
+        return Ok(None);
+    };
+    chosen_at(size, local).map(Some)
 }
 
-fn chosen_at(size: u32, l: Local) -> Result<Chosen, Cause>
-    ensures { result ≡ chosen_at size l }
+fn chosen_at(size: u32, local: Local) -> Result<Chosen, Cause>
+    ensures { result ≡ chosen_at size local }
 {
-    sized_at(l.font, scale(l.size, size))
+    sized_at(local.font, scale(local.size, size))
 }
 
-fn sized_at(font: u16, size: Option<i64>) -> Result<Chosen, Cause>
+fn sized_at(font: u16, size: Option<i32>) -> Result<Chosen, Cause>
     ensures { result ≡ sized_at font size }
 {
-    let Some(size) = size else {
-        return Err(Cause::BadSize);
-    };
-    if size < 1 || size > 134_217_727 {
-        return Err(Cause::BadSize);
+    let size = u32::try_from(size.ok_or(Cause::BadSize)?).unwrap_or(0);
+    if is_size(size) {
+        Ok(Chosen { font, size })
+    } else {
+        Err(Cause::BadSize)
     }
-    Ok(Chosen {
-        font,
-        size: size as u32,
-    })
 }

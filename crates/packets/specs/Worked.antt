@@ -1,5 +1,6 @@
 -- Short packets, with the marks, the width or the fault and its chain that each comes to.
 use Rattle.std.specs.Prelude.{◌≡◌, ℕ, cond, List, [], ◌∷◌, length, replicate, ℤ, pos, Some, None, ◌==◌, slice_set}
+use Rattle.shelf.specs.declared.asked.Asked.{Asked}
 use Rattle.shelf.specs.declared.marks.Link.{Link}
 use Rattle.shelf.specs.declared.marks.Mark.{Mark}
 use Rattle.shelf.specs.declared.marks.Mark.TheVariants.{Glyph, Rule}
@@ -9,7 +10,7 @@ use Rattle.shelf.specs.Meaning.{Meaning}
 use Rattle.shelf.specs.Outcomes.{Outcome, well, fault, ends, faulty}
 use Rattle.vf.specs.declared.entries.Local.{Local}
 use Rattle.vf.specs.Fonts.{VfFont}
-use Rattle.expansion.specs.Expanding.{Character, expanded}
+use Rattle.expansion.specs.Expanding.{expanded}
 
 abbrev link_of : ℕ → ℕ → ℕ → Link
 link_of font code place = record { font = font; code = code; place = place }
@@ -32,7 +33,7 @@ abbrev font_with : List Local → List ℕ → VfFont
 font_with ls bytes = record { locals = ls; packets = slice_set (replicate 256 None) 1 (Some (record { start = 0; length = length bytes; width = 77 })) }
 
 -- at this size a fix_word scales to the number of its last three bytes
-abbrev asked : ℕ → ℤ → Character
+abbrev asked : ℕ → ℤ → Asked
 asked code h = record { font = 5; size = 1048576; code = code; h = h; v = pos 200 }
 
 -- the packet of these bytes, from (100, 200)

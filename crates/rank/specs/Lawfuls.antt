@@ -11,6 +11,7 @@ use Rattle.std.specs.List.{AllByRecursion, slice_get}
 use Rattle.numbers.specs.FixWords.{scaled}
 use Rattle.numbers.specs.Lengths.{good_size, in_range}
 use Rattle.numbers.proofs.Scales.{scaled_bound}
+use Rattle.shelf.specs.declared.asked.Asked.{Asked}
 use Rattle.shelf.specs.declared.marks.Link.{Link}
 use Rattle.shelf.specs.declared.refusals.Cause.{Cause}
 use Rattle.shelf.specs.declared.refusals.Cause.TheVariants.{NoFont, NoCode, BadSize}
@@ -26,7 +27,7 @@ use Rattle.machine.specs.Views.{ending_of}
 use Rattle.machine.proofs.Good.{Good, good-faulty, good-bind, good-link, good-run}
 use Rattle.vf.specs.declared.entries.Packet.{Packet}
 use Rattle.vf.specs.Fonts.{VfFont}
-use Rattle.expansion.specs.Expanding.{Character, link_of, packet_world, start_at, packet_run, wide_run, expanded_by, expanded}
+use Rattle.expansion.specs.Expanding.{link_of, packet_world, start_at, packet_run, wide_run, expanded_by, expanded}
 use Rattle.expansion.specs.Selecting.{first_font}
 use Rattle.rank.specs.declared.fonts.Font.{Font}
 use Rattle.rank.specs.Laid.{font_name}
@@ -38,7 +39,7 @@ pub good-font-names : (fs : List Font) → AllByRecursion GoodName (map font_nam
 good-font-names [] = tt
 good-font-names (f ∷ fs) = let n = length-take-le f.name.count f.name.bytes (omega arith) in ((omega (arith, n), omega (arith, n)), good-font-names fs)
 
-module _ (m : Meaning) (law : Lawful m) (fonts : ℕ) (few : length m.names ≤ fonts) (c : Character) (own : c.font < fonts) where
+module _ (m : Meaning) (law : Lawful m) (fonts : ℕ) (few : length m.names ≤ fonts) (c : Asked) (own : c.font < fonts) where
   good-packet : (f : VfFont) (file : List ℕ) (p : Packet) → Good (Unit {0}) m.faces fonts (packet_run m f file c p)
   good-packet f file p =
       good-bind m.faces fonts (link (link_of c p.start) (ends [] (ending_of (first_font f c.size)))) (λ font. run_from (packet_world m f c) (take (p.start + p.length) file) p.start (start_at c font))

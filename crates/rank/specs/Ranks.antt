@@ -1,15 +1,16 @@
 -- What a rank means, by what the shelf below it means.
 use Rattle.std.specs.Prelude.{◌+◌, ◌-◌, ◌≤◌, cond, List, ◌++◌, map, length, take, ℤ, Some, None, Option, nat_lt}
 use Rattle.std.specs.List.{slice_get}
+use Rattle.shelf.specs.declared.asked.Asked.{Asked}
 use Rattle.shelf.specs.declared.refusals.Cause.TheVariants.{NoFont}
 use Rattle.shelf.specs.Meaning.{Meaning}
 use Rattle.shelf.specs.Names.{Distinct}
 use Rattle.shelf.specs.Outcomes.{Outcome, faulty}
-use Rattle.expansion.specs.Expanding.{Character, expanded}
+use Rattle.expansion.specs.Expanding.{expanded}
 use Rattle.rank.specs.Entries.{Entry, entry_name}
 
 -- a character of one of the files
-abbrev pub file_outcome : Meaning → Option Entry → Character → Outcome ℤ
+abbrev pub file_outcome : Meaning → Option Entry → Asked → Outcome ℤ
 file_outcome m (Some e) c = expanded m e.font e.file c
 file_outcome m None c = faulty NoFont
 

@@ -4,8 +4,10 @@ use Rattle.vf.specs.Fonts.{font_of}
 use Rattle.expansion.proofs.Packets.{from_first, no-first}
 use Rattle.expansion.proofs.expanding.run_packet.Goals as goal
 
-pub returns-in-Ok : goal.returns-in-Ok
-returns-in-Ok g c = from_first _ (font_of c.args.vf.now) _ _ _ _ _ _ c.args.packet _ _ _ _ c.in-Ok.ensures c.front-bytes.ensures (search rules) c.run.ensures
+pub returns : goal.returns
+returns g c = from_first _ (font_of c.args.vf.now) _ c.args.asked _ _ _ _ c.args.packet _ _ _ _ c.in-Ok.ensures c.front.ensures (search rules) c.run.ensures
 
 pub returns-in-Err : goal.returns-in-Err
-returns-in-Err g c = no-first _ (font_of c.args.vf.now) _ _ _ _ c.args.marks.now c.args.packet _ _ c.in-Err.ensures (at-link _ _ _ _ _ _ c.link.ensures c.pass_on.ensures.fault c.pass_on.ensures.full)
+returns-in-Err g c =
+    no-first _ (font_of c.args.vf.now) _ c.args.asked _ _ c.args.marks.now c.args.packet _ _ c.in-Err.ensures
+    (at-link _ _ _ _ _ _ c.link.ensures (rw c.into.ensures at c.pass_on.ensures.fault) (rw c.into.ensures at c.pass_on.ensures.full))
