@@ -1,4 +1,4 @@
-use Rattle.std.proofs.Common.{◌≡◌, Some, None, sym, ◌∙◌, w64, SFits, rules, arith}
+use Rattle.std.proofs.Common.{◌≡◌, Some, None, sym, ◌∙◌, w32, w64, SFits, rules, arith}
 use Rattle.std.proofs.lemmas.Int.{to_z-of_z}
 use Rattle.std.proofs.lemmas.Result.{err_from_is_err_and}
 use Rattle.shelf.specs.declared.refusals.Cause.TheVariants.{NoCode, BadSize}
@@ -32,4 +32,5 @@ returns g c =
     let there : c.packet.result ≡ Some c.in_ok-packet.packet = grind arith in
     let wide : c.scale.result ≡ Some c.in_ok-width.width = grind arith in
     let fits : SFits w64 c.from.result = search rules in
-    run-well _ _ _ c.args.asked _ (sym there ∙ c.packet.ensures) _ (sym wide ∙ c.scale.ensures) _ _ _ _ _ _ (to_z-of_z w64 c.from.result fits ∙ c.from.ensures) c.in_ok-n.ensures
+    let narrow : SFits w32 c.in_ok-width.width = search rules in
+    run-well _ _ _ c.args.asked _ (sym there ∙ c.packet.ensures) _ (sym wide ∙ c.scale.ensures) _ _ _ _ _ _ (to_z-of_z w64 c.from.result fits ∙ c.from.ensures ∙ to_z-of_z w32 c.in_ok-width.width narrow) c.in_ok-n.ensures
