@@ -1,31 +1,24 @@
-// Bytes and numbers at a place; past the end all are 0.
-ghost use Rattle.std.specs.Prelude.{◌≡◌, ◌^◌, ◌<◌, slice_index};
-ghost use Rattle.document.specs.Bytes.{four, two};
+// Numbers at a place; bytes past the end count as 0.
+ghost use Rattle.std.specs.Prelude.{◌≡◌, ◌+◌, ◌*◌, ◌^◌, ◌<◌, min, slice_index};
+ghost use Rattle.numbers.specs.Bytes.{number as number_in};
 
-pub(crate) fn byte_at(bytes: &[u8], at: usize) -> u32
-    ensures value { result ≡ slice_index bytes.now at }
+fn later(bytes: &[u8], place: usize, i: usize) -> u32
+    ensures is { result ≡ slice_index bytes.now (place + i) }
     ensures bound { result < 256 }
 {
-    if at < bytes.len() {
-        u32::from(bytes[at])
-    } else {
-        0
+    if place < bytes.len() && i < bytes.len() - place { u32::from(bytes[place + i]) } else { 0 }
+}
+
+// The number in `width` bytes from a place on, of which no more than four count.
+pub(crate) fn number(bytes: &[u8], place: usize, width: usize) -> u32
+    ensures value { result ≡ number_in bytes.now place (min width 4) }
+    ensures bound { result < 256 ^ min width 4 }
+{
+    match width {
+        0 => 0,
+        1 => later(bytes, place, 0),
+        2 => later(bytes, place, 0) * 256 + later(bytes, place, 1),
+        3 => (later(bytes, place, 0) * 256 + later(bytes, place, 1)) * 256 + later(bytes, place, 2),
+        _ => ((later(bytes, place, 0) * 256 + later(bytes, place, 1)) * 256 + later(bytes, place, 2)) * 256 + later(bytes, place, 3),
     }
-}
-
-pub(crate) fn two_at(bytes: &[u8], at: usize) -> u32
-    requires { at < 2 ^ 48 }
-    ensures value { result ≡ two bytes.now at }
-    ensures bound { result < 65536 }
-{
-    byte_at(bytes, at) * 256 + byte_at(bytes, at + 1)
-}
-
-pub(crate) fn four_at(bytes: &[u8], at: usize) -> u32
-    requires { at < 2 ^ 48 }
-    ensures value { result ≡ four bytes.now at }
-    ensures bound { result < 4294967296 }
-{
-    ((byte_at(bytes, at) * 256 + byte_at(bytes, at + 1)) * 256 + byte_at(bytes, at + 2)) * 256
-        + byte_at(bytes, at + 3)
 }

@@ -9,6 +9,7 @@ mod entries;
 mod fonts;
 mod legality;
 mod pages;
+mod postambles;
 mod windows;
 
 pub use cases::legal_cases;

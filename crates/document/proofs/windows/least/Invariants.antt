@@ -1,10 +1,11 @@
 -- No number from lo on and below the best so far has come.
-use Rattle.std.proofs.Common.{◌-◌, ◌<◌, ◌≤◌}
-use Rattle.document.proofs.Joins.{Least}
+use Rattle.std.proofs.Common.{ℕ, ◌<◌, ◌≤◌, ◌^◌, Option, IfSome}
+use Rattle.document.specs.Windows.{AtMost, within}
+use Rattle.document.proofs.Walks.{Walked}
 use Rattle.document.proofs.windows.least.Given as goal
 
-abbrev pub invariant-loop-at : goal.invariant-loop-at
-invariant-loop-at l = Least l.front l.from l.stop l.lo l.at l.best × (l.lo ≤ l.best) × (l.best ≤ 4299161600) × (l.best < 4299161600 → l.best < 4294967296)
-
-abbrev pub decreases-loop-at : goal.decreases-loop-at
-decreases-loop-at l = l.stop - l.at
+abbrev pub invariant-loop-definition : goal.invariant-loop-definition
+invariant-loop-definition l = record {
+  none : (hi : Option ℕ) → AtMost hi l.best → Walked (within l.entries.front.now l.lo hi) l.entries l.definition-iterator;
+  bound : IfSome l.best (λ n. (l.lo ≤ n) × (n < 2 ^ 32))
+}
