@@ -39,7 +39,6 @@ module _ (bs : List ℕ) (q : ℕ) where
     pub chain-fails : t ≤ i → (a ≡ no_page → ⊥) → Some place ≡ broken_from bs q (t - i) limit place
     chain-fails le h = fails (t - i) limit place (omega arith) (λ k. h (is ∙ k))
 
-
 -- the page that comes m and these many before another is the one that comes m before a
 abbrev pub Back : List ℕ → ℕ → List ℕ → ℕ → Type 0
 Back bs last ys a = (m : ℕ) → page_before bs (length ys + m) last ≡ page_before bs m a

@@ -136,8 +136,8 @@ pub least-all : (s t : Entries) (lo : ℕ) (hi : Option ℕ) → Walked (within 
 least-all s t lo hi w le = sym (walk_end _ s t w.0 w.1 le)
 
 -- one window more
-pub window_more : (bs : List ℕ) (from to lo stop r : ℕ) → stop ≡ stop_at (wrong bs (Some lo)) bs from to → r ≡ stop_at (again bs lo (Some (lo + 4194304))) bs from stop → r ≡ stop_at (wrong bs (Some (lo + 4194304))) bs from to
-window_more bs from to lo stop r e f = f ∙ join (wrong bs (Some lo)) (again bs lo (Some (lo + 4194304))) (wrong bs (Some (lo + 4194304))) (wider bs lo (Some (lo + 4194304)) (omega arith)) bs from to stop e
+pub window_more : (bs : List ℕ) (from to lo w stop r : ℕ) → stop ≡ stop_at (wrong bs (Some lo)) bs from to → r ≡ stop_at (again bs lo (Some (lo + w))) bs from stop → r ≡ stop_at (wrong bs (Some (lo + w))) bs from to
+window_more bs from to lo w stop r e f = f ∙ join (wrong bs (Some lo)) (again bs lo (Some (lo + w))) (wrong bs (Some (lo + w))) (wider bs lo (Some (lo + w)) (omega arith)) bs from to stop e
 
 -- what does not occur does not recur
 fewer-step : (b c : Bool) (at : ℕ) (o u : Option ℕ) → (c ≡ true → b ≡ true) → cond b (Some at) o ≡ None → (o ≡ None → u ≡ None) → cond c (Some at) u ≡ None
@@ -173,13 +173,13 @@ window_clear bs from to lo hi stop h e f =
     ap (stop_of stop) (sym g) ∙ join (wrong bs (Some lo)) (again bs lo hi) (wrong bs hi) (wider bs lo hi h) bs from to stop e
 
 -- so a window from the next number on is one more, in a walk of the same bytes from the same place
-pub window_next : (bs front : List ℕ) (from at to lo n stop r : ℕ) → front ≡ bs → at ≡ from → stop ≡ stop_at (wrong bs (Some lo)) bs from to → lo ≤ n
-    → first_of (within front lo (Some n)) front at (stop - at) 0 [] ≡ None → r ≡ stop_at (again front n (Some (n + 4194304))) front at stop
-    → r ≡ stop_at (wrong bs (Some (n + 4194304))) bs from to
-window_next bs front from at to lo n stop r e k h le none more =
+pub window_next : (bs front : List ℕ) (from at to lo n w stop r : ℕ) → front ≡ bs → at ≡ from → stop ≡ stop_at (wrong bs (Some lo)) bs from to → lo ≤ n
+    → first_of (within front lo (Some n)) front at (stop - at) 0 [] ≡ None → r ≡ stop_at (again front n (Some (n + w))) front at stop
+    → r ≡ stop_at (wrong bs (Some (n + w))) bs from to
+window_next bs front from at to lo n w stop r e k h le none more =
     let f : first_of (within bs lo (Some n)) bs from (stop - from) 0 [] ≡ None = rw (e, k) at none in
-    let g : r ≡ stop_at (again bs n (Some (n + 4194304))) bs from stop = rw (e, k) at more in
-    window_more bs from to n stop r (window_clear bs from to lo (Some n) stop le h f) g
+    let g : r ≡ stop_at (again bs n (Some (n + w))) bs from stop = rw (e, k) at more in
+    window_more bs from to n w stop r (window_clear bs from to lo (Some n) stop le h f) g
 
 -- no limit is none
 unlimited_number : (o : Option ℕ) (ns : List ℕ) → used_below None o ns ≡ used o ns

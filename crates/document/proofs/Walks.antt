@@ -111,8 +111,8 @@ module _ (s t u : Entries) (x : ℕ × Option Definition) (turned : Turns t x u)
   turn-number = ap number_by turn-defined
 
 module _ (p : ℕ → List ℕ → Bool) (s : Entries) where
-  pub walk_start : Walk p s s []
-  walk_start = record { front = refl; to = refl; same = refl }
+  pub walk_start : (t : Entries) → t ≡ s → Walk p s t []
+  walk_start t e = rw e (record { front = refl; to = refl; same = refl })
 
   module _ (t u : Entries) (ns : List ℕ) (w : Walk p s t ns) (x : ℕ × Option Definition) (turned : Turns t x u) where
     pub walk_on : false ≡ p t.at ns → Walk p s u (noted s.front.now t.at ns)

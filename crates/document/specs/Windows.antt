@@ -50,11 +50,11 @@ stop_of to (Some s) = s
 abbrev pub stop_at : (ℕ → List ℕ → Bool) → List ℕ → ℕ → ℕ → ℕ
 stop_at p bs from to = stop_of to (first_of p bs from (to - from) 0 [])
 
--- the table says which numbers of the window are among ns
-abbrev pub Tells : ℕ → List Bool → List ℕ → Type 0
-Tells lo seen ns = (n : ℕ) → lo ≤ n → n < lo + 4194304 → slice_index_or seen (n - lo) false ≡ member n ns
+-- the table says which of the w numbers from lo on are among ns
+abbrev pub Tells : ℕ → ℕ → List Bool → List ℕ → Type 0
+Tells w lo seen ns = (n : ℕ) → lo ≤ n → n < lo + w → slice_index_or seen (n - lo) false ≡ member n ns
 
 -- a command is noted in the table, and r says whether its number was there
-abbrev pub Noted : ℕ → Option ℕ → List Bool → List Bool → Bool → Type 0
-Noted lo e seen after r =
-    (ns : List ℕ) → Tells lo seen ns → (r ≡ again_by lo (Some (lo + 4194304)) e ns) × (r ≡ false → Tells lo after (noted_by e ns))
+abbrev pub Noted : ℕ → ℕ → Option ℕ → List Bool → List Bool → Bool → Type 0
+Noted w lo o seen after r =
+    (ns : List ℕ) → Tells w lo seen ns → (r ≡ again_by lo (Some (lo + w)) o ns) × (r ≡ false → Tells w lo after (noted_by o ns))

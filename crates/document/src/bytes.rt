@@ -6,7 +6,11 @@ fn later(bytes: &[u8], place: usize, i: usize) -> u32
     ensures is { result ≡ slice_index bytes.now (place + i) }
     ensures bound { result < 256 }
 {
-    if place < bytes.len() && i < bytes.len() - place { u32::from(bytes[place + i]) } else { 0 }
+    if place < bytes.len() && i < bytes.len() - place {
+        u32::from(bytes[place + i])
+    } else {
+        0
+    }
 }
 
 // The number in `width` bytes from a place on, of which no more than four count.
@@ -19,6 +23,9 @@ pub(crate) fn number(bytes: &[u8], place: usize, width: usize) -> u32
         1 => later(bytes, place, 0),
         2 => later(bytes, place, 0) * 256 + later(bytes, place, 1),
         3 => (later(bytes, place, 0) * 256 + later(bytes, place, 1)) * 256 + later(bytes, place, 2),
-        _ => ((later(bytes, place, 0) * 256 + later(bytes, place, 1)) * 256 + later(bytes, place, 2)) * 256 + later(bytes, place, 3),
+        _ => ((later(bytes, place, 0) * 256 + later(bytes, place, 1)) * 256
+            + later(bytes, place, 2))
+            * 256
+            + later(bytes, place, 3),
     }
 }

@@ -3,5 +3,4 @@ ghost use Rattle.document.specs.Cases.{WorkedDocuments};
 
 pub fn legal_cases()
     ensures { WorkedDocuments }
-{
-}
+{}

@@ -22,7 +22,7 @@ pub(crate) fn lawful_to(entries: Entries<'_>) -> usize
     lawful.to = fair_to(entries);
     let mut lo = 0;
     while let Some(n) = least(lawful, lo) {
-        lawful.to = window(lawful, n);
+        lawful.to = window::<WINDOW>(lawful, n);
         lo = n + WINDOW;
     }
     lawful.to
@@ -40,12 +40,13 @@ fn fair_to(entries: Entries<'_>) -> usize
     entries.to
 }
 
-// Where a number of the window from `lo` on is first used again; the end where none is.
-fn window(entries: Entries<'_>, lo: usize) -> usize
-    ensures { result ≡ stop_at (again entries.entry.front.now lo (Some (lo + 4194304))) entries.entry.front.now entries.entry.at entries.entry.to }
+// Where one of the N numbers from `lo` on is first used again; the end where none is.
+fn window<const N: usize>(entries: Entries<'_>, lo: usize) -> usize
+    requires { N < 2 ^ 63 }
+    ensures { result ≡ stop_at (again entries.entry.front.now lo (Some (lo + N))) entries.entry.front.now entries.entry.at entries.entry.to }
 {
     // a fixed table, since calls of the library allocate nothing
-    let mut seen = [false; WINDOW];
+    let mut seen = [false; N];
     for (at, definition) in entries {
         if note(&mut seen, number_of(definition), lo) {
             return at;
@@ -56,9 +57,8 @@ fn window(entries: Entries<'_>, lo: usize) -> usize
 
 // Notes a number in the table of a window; true where it is there already.
 fn note(seen: &mut [bool], number: Option<usize>, lo: usize) -> bool
-    requires { length seen.old ≡ 4194304 }
-    ensures noted { Noted lo number seen.old seen.new result }
-    ensures long { length seen.new ≡ 4194304 }
+    ensures noted { Noted (length seen.old) lo number seen.old seen.new result }
+    ensures long { length seen.new ≡ length seen.old }
 {
     // an index, since `get_mut` does not say what a write through it leaves
     match number {

@@ -7,7 +7,7 @@ pub loop-n-preserved : goal.loop-n-preserved
 loop-n-preserved c =
     let i = c.loop-n.invariant in
     let bound = c.in-Some.ensures.bound in
-    record { front = i.front; at = i.at; room = omega (arith, bound); stop = window_next _ _ _ _ _ _ _ _ _ i.front i.at i.stop bound.0 c.in-Some.ensures.none c.window.ensures }
+    record { front = i.front; at = i.at; room = omega (arith, bound); stop = window_next _ _ _ _ _ _ _ _ _ _ i.front i.at i.stop bound.0 c.in-Some.ensures.none c.window.ensures }
 
 pub returns : goal.returns
 returns c =

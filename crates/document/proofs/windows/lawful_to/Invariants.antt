@@ -8,7 +8,7 @@ invariant-loop-n l = record {
   front : l.lawful.front.now ≡ l.entries.front.now;
   at : l.lawful.at ≡ l.entries.at;
   room : l.lo ≤ 4299161600;
-  stop : l.lawful.to ≡ stop_at (wrong l.entries.front.now (Some l.lo)) l.entries.front.now l.entries.at l.entries.to
+  stop : l.lawful.to ≡ stop_at (wrong l.entries.front.now (Some l.lo)) l.entries.front.now l.entries.at l.entries.to;
 }
 
 abbrev pub decreases-loop-n : goal.decreases-loop-n

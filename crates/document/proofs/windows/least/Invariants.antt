@@ -7,5 +7,5 @@ use Rattle.document.proofs.windows.least.Given as goal
 abbrev pub invariant-loop-definition : goal.invariant-loop-definition
 invariant-loop-definition l = record {
   none : (hi : Option ℕ) → AtMost hi l.best → Walked (within l.entries.front.now l.lo hi) l.entries l.definition-iterator;
-  bound : IfSome l.best (λ n. (l.lo ≤ n) × (n < 2 ^ 32))
+  bound : IfSome l.best (λ n. (l.lo ≤ n) × (n < 2 ^ 32));
 }

@@ -3,4 +3,4 @@ use Rattle.document.proofs.Notes.{Sofar}
 use Rattle.document.proofs.windows.window.Given as goal
 
 abbrev pub invariant-loop-at : goal.invariant-loop-at
-invariant-loop-at l = Sofar l.entries l.lo l.at-iterator l.seen
+invariant-loop-at g l = Sofar g.row.N l.entries l.lo l.at-iterator l.seen
