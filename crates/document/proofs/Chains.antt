@@ -6,38 +6,23 @@ use Rattle.std.proofs.lemmas.Bool.{eq-eqb, ne_eqb}
 use Rattle.document.specs.Bytes.{four, two, no_page}
 use Rattle.document.specs.Pages.{leads, broken_from, broken_pointer, page_before}
 
-module _ (bs : List ℕ) (q : ℕ) where
-  on : (k t limit place : ℕ) → k ≡ suc t → true ≡ leads bs q limit (four bs place)
-      → broken_from bs q k limit place ≡ broken_from bs q t (four bs place) (four bs place + 41)
+-- a pointer read as a, after i of t pages
+module _ (bs : List ℕ) (q t i limit place a : ℕ) (is : a ≡ four bs place) where
+  pub chain-on : i < t → true ≡ leads bs q limit a → broken_from bs q (t - (i + 1)) a (a + 41) ≡ broken_from bs q (t - i) limit place
   unfolding broken_from
-  on k t limit place e h = rw (e, ← h)
+  chain-on lt h = let e : t - i ≡ suc (t - (i + 1)) = omega arith in rw (e, ← is, ← h)
 
-  off : (k limit place : ℕ) → 0 < k → false ≡ leads bs q limit (four bs place) → Some place ≡ broken_from bs q k limit place
+  pub chain-off : i < t → false ≡ leads bs q limit a → Some place ≡ broken_from bs q (t - i) limit place
   unfolding broken_from
-  off zero limit place e h = absurd (omega arith)
-  off (suc k) limit place e h = rw (← h)
+  chain-off lt h = let e : t - i ≡ suc (t - (i + 1)) = omega arith in rw (e, ← is, ← h)
 
-  ends : (k limit place : ℕ) → k ≡ 0 → four bs place ≡ no_page → None ≡ broken_from bs q k limit place
+  pub chain-ends : t ≤ i → a ≡ no_page → None ≡ broken_from bs q (t - i) limit place
   unfolding broken_from
-  ends k limit place e h = rw (e, eq-eqb (four bs place) no_page h)
+  chain-ends le h = let e : t - i ≡ 0 = omega arith in rw (e, ← is, eq-eqb a no_page h)
 
-  fails : (k limit place : ℕ) → k ≡ 0 → (four bs place ≡ no_page → ⊥) → Some place ≡ broken_from bs q k limit place
+  pub chain-fails : t ≤ i → (a ≡ no_page → ⊥) → Some place ≡ broken_from bs q (t - i) limit place
   unfolding broken_from
-  fails k limit place e h = rw (e, ne_eqb (four bs place) no_page h)
-
-  -- the same for a pointer read as a, after i of t pages
-  module _ (t i limit place a : ℕ) (is : a ≡ four bs place) where
-    pub chain-on : i < t → true ≡ leads bs q limit a → broken_from bs q (t - (i + 1)) a (a + 41) ≡ broken_from bs q (t - i) limit place
-    chain-on lt h = rw is (sym (on (t - i) (t - (i + 1)) limit place (omega arith) (rw is at h)))
-
-    pub chain-off : i < t → false ≡ leads bs q limit a → Some place ≡ broken_from bs q (t - i) limit place
-    chain-off lt h = off (t - i) limit place (omega arith) (rw is at h)
-
-    pub chain-ends : t ≤ i → a ≡ no_page → None ≡ broken_from bs q (t - i) limit place
-    chain-ends le h = ends (t - i) limit place (omega arith) (sym is ∙ h)
-
-    pub chain-fails : t ≤ i → (a ≡ no_page → ⊥) → Some place ≡ broken_from bs q (t - i) limit place
-    chain-fails le h = fails (t - i) limit place (omega arith) (λ k. h (is ∙ k))
+  chain-fails le h = let e : t - i ≡ 0 = omega arith in rw (e, ← is, ne_eqb a no_page h)
 
 -- the page that comes m and these many before another is the one that comes m before a
 abbrev pub Back : List ℕ → ℕ → List ℕ → ℕ → Type 0

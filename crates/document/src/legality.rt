@@ -1,6 +1,6 @@
 // Legal documents: all checks, in their order.
 ghost use Rattle.std.specs.Prelude.{◌≡◌};
-ghost use Rattle.document.specs.Legal.{judged, legal as legal_by};
+ghost use Rattle.document.specs.Legal.{legal as legal_by};
 
 use crate::checks::{check_length, check_start, check_units};
 use crate::documents::Document;
@@ -8,14 +8,9 @@ use crate::postambles::Postamble;
 use shelf::Refusal;
 
 // What a legal document states, or the first check that fails.
+#[tactic(auto, unfolding(crate::specs::Legal::legal))]
 pub fn legal(bytes: &[u8]) -> Result<Document, Refusal>
     ensures { result ≡ legal_by bytes.now }
-{
-    judge(bytes)
-}
-
-fn judge(bytes: &[u8]) -> Result<Document, Refusal>
-    ensures { result ≡ judged bytes.now }
 {
     check_length(bytes)?;
     check_start(bytes)?;

@@ -41,7 +41,7 @@ impl<'a> Postamble<'a> {
         Postamble { bytes, bare, post }
     }
 
-    // The place of one of its bytes.
+    // The place of one of its bytes. `as` as usize has no `From<u32>`; the check proves that it loses nothing.
     fn place(&self, offset: u8) -> usize
         ensures { result ≡ self.now.post + offset }
     {
