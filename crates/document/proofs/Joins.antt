@@ -1,5 +1,6 @@
 -- Two tests in one walk are one walk, and another up to where the first stopped; so windows add up. Assumes nothing.
 use Rattle.std.proofs.Common.{◌≡◌, ℕ, zero, suc, ◌+◌, ◌-◌, ◌<◌, ◌≤◌, Bool, true, false, cond, not, ◌&&◌, ◌||◌, eqb, ltb, leb, ◌⊎◌, List, [], length, get_or, Some, None, Ok, Err, Option, sym, refl, ap, ◌∙◌, inl, inr, arith}
+use Rattle.std.proofs.Math.Bool.{or-false}
 use Rattle.std.proofs.lemmas.Bool.{lt-ltb, lt-leb, le-ltb, and_parts, leb-true, true≢false, eqb-true}
 use Rattle.std.proofs.lemmas.Bool.Decides.{nat_tests}
 use Rattle.numbers.specs.Bytes.{number}
@@ -98,13 +99,9 @@ none_below_0 : (o : Option ℕ) (ns : List ℕ) → used_below (Some 0) o ns ≡
 none_below_0 None ns = refl
 none_below_0 (Some n) ns = rw (le-ltb n 0 (omega arith))
 
-or_false : (b : Bool) → (b || false) ≡ b
-or_false true = refl
-or_false false = refl
-
 pub wrong_0 : (bs : List ℕ) (at : ℕ) (ns : List ℕ) → wrong bs (Some 0) at ns ≡ unfair bs at
 unfolding wrong
-wrong_0 bs at ns = rw (none_below_0 (entry_at bs at).number ns, or_false (not (fair (defined_at bs at))))
+wrong_0 bs at ns = rw (none_below_0 (entry_at bs at).number ns, or-false (not (fair (defined_at bs at))))
 
 -- the walk past fair commands
 module _ (s t u : Entries) (w : Walked (wrong s.front.now (Some 0)) s t) (x : ℕ × Option Definition) (turned : Turns t x u) where
