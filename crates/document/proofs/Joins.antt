@@ -13,7 +13,7 @@ use Rattle.document.specs.Entries.{Turns}
 use Rattle.shelf.specs.declared.refusals.Refusal.{Refusal}
 use Rattle.document.specs.Fonts.{wide, defined_at, entry_at, number_by, member, used, noted, first_of, fair, unlawful, first_unlawful}
 use Rattle.document.specs.Legal.{placed}
-use Rattle.document.specs.Windows.{AtMost, below, again, again_by, used_below, within, within_by, unfair, wrong, stop_of, stop_at}
+use Rattle.document.specs.Windows.{below, again, again_by, used_below, within, within_by, unfair, wrong, stop_of, stop_at}
 use Rattle.document.proofs.Walks.{Walked, walk_on, walk_hit, walk_end, turn-number, at_least, before, same_first}
 
 abbrev or_else : Option ℕ → Option ℕ → Option ℕ
@@ -68,15 +68,20 @@ module _ (p r pr : ℕ → List ℕ → Bool) (both : (at : ℕ) (ns : List ℕ)
   join : (from to stop : ℕ) → stop ≡ stop_at p bs from to → stop_at r bs from stop ≡ stop_at pr bs from to
   join from to stop e = rw e (sym (join_by from to (first_of p bs from (to - from) 0 []) refl))
 
+-- a limit is lo or above it
+abbrev Above : ℕ → Option ℕ → Type 0
+Above lo None = Unit {0}
+Above lo (Some hi) = lo ≤ hi
+
 -- a wider range of numbers is the narrower one and the rest
-wider_by : (fine m : Bool) (n lo : ℕ) (hi : Option ℕ) → AtMost (Some lo) hi → (not fine || (below hi n && m)) ≡ ((not fine || (ltb n lo && m)) || (leb lo n && (below hi n && m)))
+wider_by : (fine m : Bool) (n lo : ℕ) (hi : Option ℕ) → Above lo hi → (not fine || (below hi n && m)) ≡ ((not fine || (ltb n lo && m)) || (leb lo n && (below hi n && m)))
 wider_by false m n lo hi h = refl
 wider_by true true n lo None h = grind (arith, nat_tests)
 wider_by true false n lo None h = grind (arith, nat_tests)
 wider_by true true n lo (Some k) h = grind (arith, nat_tests)
 wider_by true false n lo (Some k) h = grind (arith, nat_tests)
 
-wider-number : (fine : Bool) (o : Option ℕ) (ns : List ℕ) (lo : ℕ) (hi : Option ℕ) → AtMost (Some lo) hi → (not fine || used_below hi o ns) ≡ ((not fine || used_below (Some lo) o ns) || again_by lo hi o ns)
+wider-number : (fine : Bool) (o : Option ℕ) (ns : List ℕ) (lo : ℕ) (hi : Option ℕ) → Above lo hi → (not fine || used_below hi o ns) ≡ ((not fine || used_below (Some lo) o ns) || again_by lo hi o ns)
 wider-number true None ns lo hi h = refl
 wider-number false None ns lo hi h = refl
 wider-number fine (Some n) ns lo hi h = wider_by fine (member n ns) n lo hi h
@@ -90,7 +95,7 @@ nop-defines : (bs : List ℕ) (at : ℕ) → eqb (get_or bs at 0) 138 ≡ true �
 unfolding entry_at defined_at
 nop-defines bs at e = let f : get_or bs at 0 ≡ 138 = eqb-true (get_or bs at 0) 138 e in rw f
 
-wider : (bs : List ℕ) (lo : ℕ) (hi : Option ℕ) → AtMost (Some lo) hi → (at : ℕ) (ns : List ℕ) → wrong bs hi at ns ≡ (wrong bs (Some lo) at ns || again bs lo hi at ns)
+wider : (bs : List ℕ) (lo : ℕ) (hi : Option ℕ) → Above lo hi → (at : ℕ) (ns : List ℕ) → wrong bs hi at ns ≡ (wrong bs (Some lo) at ns || again bs lo hi at ns)
 unfolding wrong again
 wider bs lo hi h at ns =
     not-both (eqb (get_or bs at 0) 138) (entry_at bs at).number ns lo hi _ _ (nop-defines bs at) (wider-number (fair (defined_at bs at)) (entry_at bs at).number ns lo hi h)
@@ -116,10 +121,6 @@ module _ (s t u : Entries) (w : Walked (wrong s.front.now (Some 0)) s t) (x : �
 
 pub fair_all : (s t : Entries) → Walked (wrong s.front.now (Some 0)) s t → t.to ≤ t.at → s.to ≡ stop_at (wrong s.front.now (Some 0)) s.front.now s.at s.to
 fair_all s t w le = ap (stop_of s.to) (walk_end _ s t w.0 w.1 le)
-
-pub at_most_itself : (hi : Option ℕ) → AtMost hi hi
-at_most_itself None = tt
-at_most_itself (Some n) = omega arith
 
 -- the walk for the least number
 module _ (s t u : Entries) (lo : ℕ) (hi : Option ℕ) (w : Walked (within s.front.now lo hi) s t) (x : ℕ × Option Definition) (turned : Turns t x u) where
@@ -162,7 +163,7 @@ unfolding again within
 again-occurs bs lo hi at ns = again-within-number lo hi (entry_at bs at).number ns
 
 -- a range without numbers changes nothing
-pub window_clear : (bs : List ℕ) (from to lo : ℕ) (hi : Option ℕ) (stop : ℕ) → AtMost (Some lo) hi → stop ≡ stop_at (wrong bs (Some lo)) bs from to
+pub window_clear : (bs : List ℕ) (from to lo : ℕ) (hi : Option ℕ) (stop : ℕ) → Above lo hi → stop ≡ stop_at (wrong bs (Some lo)) bs from to
     → first_of (within bs lo hi) bs from (stop - from) 0 [] ≡ None → stop ≡ stop_at (wrong bs hi) bs from to
 window_clear bs from to lo hi stop h e f =
     let g : first_of (again bs lo hi) bs from (stop - from) 0 [] ≡ None =

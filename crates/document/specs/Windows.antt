@@ -7,11 +7,10 @@ abbrev pub below : Option ℕ → ℕ → Bool
 below None n = true
 below (Some hi) n = nat_lt n hi
 
--- a limit is no higher than another
-abbrev pub AtMost : Option ℕ → Option ℕ → Type 0
-AtMost hi None = Unit {0}
-AtMost None (Some k) = ⊥
-AtMost (Some h) (Some k) = h ≤ k
+-- a number, if it is from lo on
+abbrev pub from_on : ℕ → Option ℕ → Option ℕ
+from_on lo None = None
+from_on lo (Some n) = cond (nat_le lo n) (Some n) None
 
 -- a number from lo on, below hi, is defined
 abbrev pub within_by : ℕ → Option ℕ → Option ℕ → Bool

@@ -4,7 +4,7 @@ ghost use Rattle.std.specs.Prelude.{◌≡◌, ℕ, ◌+◌, ◌-◌, ◌^◌, �
 ghost use Rattle.std.specs.Option.{option_map};
 ghost use Rattle.commands.specs.Shapes.{defines};
 ghost use Rattle.document.specs.Fonts.{number_by, first_of, unlawful};
-ghost use Rattle.document.specs.Windows.{Noted, AtMost, again, stop_at, within as in_window, within_by, wrong};
+ghost use Rattle.document.specs.Windows.{Noted, again, from_on, stop_at, within as in_window, wrong};
 
 use crate::entries::{Entries, is_unfair};
 use commands::Definition;
@@ -72,26 +72,17 @@ fn least(entries: Entries<'_>, lo: usize) -> Option<usize>
     ensures none { first_of (in_window entries.entry.front.now lo result) entries.entry.front.now entries.entry.at (entries.entry.to - entries.entry.at) 0 [] ≡ None }
     ensures bound { IfSome result (λ n. (lo ≤ n) × (n < 2 ^ 32)) }
 {
-    let mut best = None;
-    for (_, definition) in entries {
-        best = lower(best, number_of(definition), lo);
-    }
-    best
+    entries
+        .filter_map(|(_, definition)| number_from(definition, lo))
+        .min()
 }
 
-// The lower of the best so far and a number from `lo` on.
-fn lower(best: Option<usize>, number: Option<usize>, lo: usize) -> Option<usize>
-    requires best { IfSome best (λ n. (lo ≤ n) × (n < 2 ^ 32)) }
-    requires number { IfSome number (λ n. n < 2 ^ 32) }
-    ensures none { (hi : Option ℕ) → AtMost hi result → false ≡ within_by lo hi number }
-    ensures lower { (hi : Option ℕ) → AtMost hi result → AtMost hi best }
+// The font number that a command defines, if it is from `lo` on.
+fn number_from(definition: Option<Definition<'_>>, lo: usize) -> Option<usize>
+    ensures value { result ≡ from_on lo (number_by (option_map defines definition.entry)) }
     ensures bound { IfSome result (λ n. (lo ≤ n) × (n < 2 ^ 32)) }
 {
-    match (best, number) {
-        (None, Some(n)) if lo <= n => Some(n),
-        (Some(b), Some(n)) if lo <= n => Some(b.min(n)),
-        _ => best,
-    }
+    number_of(definition).filter(|n| lo <= *n)
 }
 
 // The font number that a command defines.

@@ -1,13 +1,10 @@
--- One command more.
-use Rattle.std.proofs.Common.{rules}
-use Rattle.document.proofs.Joins.{least_on, least-all, at_most_itself}
+-- By the numbers that the walk gives.
+use Rattle.std.proofs.Common.{◌∙◌, rules}
+use Rattle.document.proofs.Least.{number_from, least_is}
 use Rattle.document.proofs.windows.least.Goals as goal
 
-pub loop-definition-preserved : goal.loop-definition-preserved
-loop-definition-preserved c = record {
-  none = λ hi h. least_on _ _ _ _ _ (c.loop-definition.invariant.none hi (c.lower-best.ensures.lower hi h)) _ c.in-Some.ensures.steps _ c.number_of.ensures.value (c.lower-best.ensures.none hi h);
-  bound = search rules;
-}
-
-pub returns : goal.returns
-returns c = record { none = least-all _ _ _ _ (c.loop-definition.invariant.none _ (at_most_itself _)) c.in-None.ensures.steps; bound = search rules }
+pub returns-clause-none : goal.returns-clause-none
+returns-clause-none c =
+    let m = c.min.ensures.runs in
+    let f = c.filter_map.ensures.runs m.0 m.0.seen m.1 in
+    least_is m.0 f.0 c.args.entries c.args.lo c.min.result m.3 f.1 (f.2.0 ∙ m.2) (f.2.3 (number_from c.args.lo) (λ x r g k. search rules))
