@@ -1,10 +1,10 @@
 -- The chain of pages: one pointer more, and its end. Assumes nothing.
-use Rattle.std.proofs.Common.{◌≡◌, ℕ, zero, suc, ◌+◌, ◌-◌, ◌<◌, ◌≤◌, true, false, List, [], ◌∷◌, ◌++◌, length, Some, None, Option, sym, refl, ◌∙◌, arith, length-append}
+use Rattle.std.proofs.Common.{◌≡◌, ℕ, suc, ◌+◌, ◌-◌, ◌<◌, ◌≤◌, true, false, List, [], ◌∷◌, ◌++◌, length, Some, None, sym, arith, length-append}
 use Rattle.std.specs.List.{range_with_len}
 use Rattle.std.proofs.lemmas.List.FromFn.{length-range_with_len}
 use Rattle.std.proofs.lemmas.Bool.{eq-eqb, ne_eqb}
-use Rattle.document.specs.Bytes.{four, two, no_page}
-use Rattle.document.specs.Pages.{leads, broken_from, broken_pointer, page_before}
+use Rattle.document.specs.Bytes.{four, no_page}
+use Rattle.document.specs.Pages.{leads, broken_from, page_before}
 
 -- a pointer read as a, after i of t pages
 module _ (bs : List ℕ) (q t i limit place a : ℕ) (is : a ≡ four bs place) where

@@ -1,5 +1,5 @@
 -- The first definition of a font number. Assumes nothing.
-use Rattle.std.proofs.Common.{◌≡◌, ℕ, ◌+◌, ◌-◌, ◌<◌, ◌≤◌, min, Bool, true, false, ◌⊎◌, List, [], length, take, Some, None, Option, sym, ◌∙◌, inl, inr, ap, arith}
+use Rattle.std.proofs.Common.{◌≡◌, ℕ, ◌<◌, ◌≤◌, min, Bool, true, false, ◌⊎◌, List, [], length, take, Some, None, Option, sym, ◌∙◌, inl, inr, ap, arith}
 use Rattle.std.proofs.lemmas.List.{length-take}
 use Rattle.std.proofs.lemmas.Bool.{cases_lt}
 use Rattle.std.specs.Option.{option_map}
@@ -7,7 +7,7 @@ use Rattle.commands.specs.declared.parts.Definition.{Definition}
 use Rattle.commands.specs.Shapes.{defines as defined_by}
 use Rattle.document.specs.declared.entries.Entries.{Entries}
 use Rattle.document.specs.Entries.{Turns}
-use Rattle.document.specs.Fonts.{number_by, noted, first_of, has_number, defines, defined_in, font_from}
+use Rattle.document.specs.Fonts.{number_by, noted, has_number, defines, defined_in, font_from}
 use Rattle.document.proofs.Walks.{Walked, miss, walk_on, walk_hit, walk_end, turn-number, turn-defined}
 
 -- from beyond the end on there is no command

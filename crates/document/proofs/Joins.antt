@@ -1,17 +1,15 @@
 -- Two tests in one walk are one walk, and another up to where the first stopped; so windows add up. Assumes nothing.
-use Rattle.std.proofs.Common.{◌≡◌, ℕ, zero, suc, ◌+◌, ◌-◌, ◌<◌, ◌≤◌, Bool, true, false, cond, not, ◌&&◌, ◌||◌, eqb, ltb, leb, ◌⊎◌, List, [], length, get_or, Some, None, Ok, Err, Option, sym, refl, ap, ◌∙◌, inl, inr, arith}
+use Rattle.std.proofs.Common.{◌≡◌, ℕ, zero, suc, ◌+◌, ◌-◌, ◌<◌, ◌≤◌, Bool, true, false, cond, not, ◌&&◌, ◌||◌, eqb, ltb, leb, List, [], length, get_or, Some, None, Ok, Err, Option, sym, refl, ap, ◌∙◌, arith}
 use Rattle.std.proofs.Math.Bool.{or-false}
-use Rattle.std.proofs.lemmas.Bool.{lt-ltb, lt-leb, le-ltb, and_parts, leb-true, true≢false, eqb-true}
+use Rattle.std.proofs.lemmas.Bool.{le-ltb, true≢false, eqb-true}
 use Rattle.std.proofs.lemmas.Bool.Decides.{nat_tests}
-use Rattle.numbers.specs.Bytes.{number}
-use Rattle.commands.specs.Definitions.{Defined}
 use Rattle.std.specs.Option.{option_map}
 use Rattle.commands.specs.declared.parts.Definition.{Definition}
 use Rattle.commands.specs.Shapes.{defines}
 use Rattle.document.specs.declared.entries.Entries.{Entries}
 use Rattle.document.specs.Entries.{Turns}
 use Rattle.shelf.specs.declared.refusals.Refusal.{Refusal}
-use Rattle.document.specs.Fonts.{wide, defined_at, entry_at, number_by, member, used, noted, first_of, fair, unlawful, first_unlawful}
+use Rattle.document.specs.Fonts.{defined_at, entry_at, number_by, member, used, noted, first_of, fair, unlawful, first_unlawful}
 use Rattle.document.specs.Legal.{placed}
 use Rattle.document.specs.Windows.{below, again, again_by, used_below, within, within_by, unfair, wrong, stop_of, stop_at}
 use Rattle.document.proofs.Walks.{Walked, walk_on, walk_hit, walk_end, turn-number, at_least, before, same_first}

@@ -1,6 +1,6 @@
 -- The table of a window: what one command does to it, and the walk that keeps it. Assumes nothing.
-use Rattle.std.proofs.Common.{◌≡◌, ℕ, ◌+◌, ◌-◌, ◌<◌, ◌≤◌, Bool, true, false, ◌≢◌, ◌⊎◌, List, [], ◌∷◌, length, get_or, set, replicate, Some, None, Option, sym, refl, subst, ap, ◌∙◌, inl, inr, arith, get_or-set_other, get_or-set_same}
-use Rattle.std.proofs.lemmas.List.{get_or-replicate, length-replicate}
+use Rattle.std.proofs.Common.{◌≡◌, ℕ, ◌+◌, ◌-◌, ◌<◌, ◌≤◌, Bool, true, false, ◌≢◌, ◌⊎◌, List, [], ◌∷◌, length, get_or, set, replicate, Some, None, Option, sym, refl, ap, ◌∙◌, inl, inr, arith, get_or-set_other, get_or-set_same}
+use Rattle.std.proofs.lemmas.List.{get_or-replicate}
 use Rattle.std.proofs.lemmas.Bool.{eq-eqb, ne_eqb, le-leb, lt-ltb, cases_eq, lt-leb, le-ltb, true≢false}
 use Rattle.std.specs.Option.{option_map}
 use Rattle.commands.specs.declared.parts.Definition.{Definition}
@@ -9,7 +9,7 @@ use Rattle.document.specs.declared.entries.Entries.{Entries}
 use Rattle.document.specs.Entries.{Turns}
 use Rattle.document.specs.Fonts.{entry_at, member, noted, number_by}
 use Rattle.document.specs.Windows.{Noted, Tells, again, again_by, stop_at, stop_of}
-use Rattle.document.proofs.Walks.{Walk, walk_start, walk_on, walk_hit, walk_end, turn-number}
+use Rattle.document.proofs.Walks.{Walk, walk_on, walk_hit, walk_end, turn-number}
 
 outside : (w lo n : ℕ) (seen : List Bool) (ns : List ℕ) → Tells w lo seen ns → (n < lo) ⊎ (lo + w ≤ n) → Tells w lo seen (n ∷ ns)
 outside w lo n seen ns t (inl h) k a b = rw (ne_eqb k n (λ e. omega arith)) (t k a b)

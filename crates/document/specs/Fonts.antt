@@ -1,5 +1,5 @@
 -- The commands of the postamble: 138s and font definitions. The bytes given here end where the 249 stands.
-use Rattle.std.specs.Prelude.{ℕ, zero, suc, ◌+◌, ◌-◌, Bool, true, false, cond, not, ◌&&◌, ◌||◌, List, [], ◌∷◌, length, take, Some, None, Option, ◌==◌, slice_index}
+use Rattle.std.specs.Prelude.{ℕ, zero, suc, ◌+◌, ◌-◌, Bool, false, cond, not, ◌&&◌, ◌||◌, List, [], ◌∷◌, length, take, Some, None, Option, ◌==◌, slice_index}
 use Rattle.numbers.specs.Lengths.{good_size}
 use Rattle.shelf.specs.Names.{good_name}
 use Rattle.commands.specs.Definitions.{Defined, definition_at}

@@ -1,5 +1,5 @@
 -- A step of the fold goes back a page.
-use Rattle.std.proofs.Common.{◌≡◌, ℕ, ◌+◌, sym, refl, arith, rules}
+use Rattle.std.proofs.Common.{refl, arith, rules}
 use Rattle.std.specs.List.{range_with_len}
 use Rattle.std.proofs.iter.Yields.{nat_range_steps}
 use Rattle.std.proofs.lemmas.Fn.{fold_over}

@@ -1,6 +1,5 @@
 -- The pointer that fails from here on is the one that fails from the postamble on.
-use Rattle.std.proofs.Common.{◌≡◌, ◌+◌, ◌-◌, ◌<◌}
-use Rattle.document.specs.Bytes.{two}
+use Rattle.std.proofs.Common.{◌≡◌, ◌-◌}
 use Rattle.document.specs.Pages.{broken_from, broken_pointer}
 use Rattle.document.proofs.postambles.Postamble.check_pages.Given as goal
 
