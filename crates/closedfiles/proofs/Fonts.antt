@@ -93,7 +93,7 @@ module _ (m : Meaning) (law : Lawful m) (t : List ℕ) where
 
   -- the definition of a number is that of its pair
   pub font-found : (ps : List Pair) (at n : ℕ) (ns : List ℕ) → AllByRecursion (GoodPair m) ps → n + length ps ≤ 64 → drop at t ≡ fonts_bytes F n ps → (i j : ℕ) (p : Pair) → i ≡ n + j → slice_get ps j ≡ Some p → defined_in t (first_of (λ k ms. defines t i k) t at (length t - at) 0 ns) ≡ Some (defined_by i p.size (F p.face))
-  font-found [] at n ns good few e i j p is has = absurd (let z : ◌≡◌ {A = ℕ} 0 1 = cc in omega arith)
+  font-found [] at n ns good few e i j p is has = cc
   font-found (q ∷ ps) at n ns good few e i zero p is has =
       let same : q ≡ p = cc in
       let f = F q.face in

@@ -36,7 +36,7 @@ module _ (p r pr : ℕ → List ℕ → Bool) (both : (at : ℕ) (ns : List ℕ)
 
   join-some : (at left skip : ℕ) (ns : List ℕ) (s : ℕ) → first_of p bs at left skip ns ≡ Some s → first_of pr bs at left skip ns ≡ or_else (first_of r bs at (s - at) skip ns) (Some s)
   unfolding first_of
-  join-some at zero skip ns s e = absurd (let z : ◌≡◌ {A = ℕ} 0 1 = cc in omega arith)
+  join-some at zero skip ns s e = cc
   join-some at (suc l) (suc k) ns s e =
       let g : suc at ≤ s = at_least p bs (suc at) l k ns s e in
       let f : s - at ≡ suc (s - suc at) = omega arith in
@@ -45,7 +45,7 @@ module _ (p r pr : ℕ → List ℕ → Bool) (both : (at : ℕ) (ns : List ℕ)
       rw (both at ns) (join-here (p at ns) (r at ns) at s ns _ _ refl (at_least p bs (suc at) l ((entry_at bs at).span - 1) (noted bs at ns) s) e (join-some (suc at) l ((entry_at bs at).span - 1) (noted bs at ns) s))
 
   none-step : (b c : Bool) (at : ℕ) (o u v : Option ℕ) → cond b (Some at) o ≡ None → (o ≡ None → u ≡ v) → cond (b || c) (Some at) u ≡ cond c (Some at) v
-  none-step true c at o u v e i = absurd (let z : ◌≡◌ {A = ℕ} 0 1 = cc in omega arith)
+  none-step true c at o u v e i = cc
   none-step false true at o u v e i = refl
   none-step false false at o u v e i = i e
 
@@ -137,7 +137,7 @@ window_more bs from to lo w stop r e f = f ∙ join (wrong bs (Some lo)) (again 
 
 -- what does not occur does not recur
 fewer-step : (b c : Bool) (at : ℕ) (o u : Option ℕ) → (c ≡ true → b ≡ true) → cond b (Some at) o ≡ None → (o ≡ None → u ≡ None) → cond c (Some at) u ≡ None
-fewer-step true c at o u h e i = absurd (let z : ◌≡◌ {A = ℕ} 0 1 = cc in omega arith)
+fewer-step true c at o u h e i = cc
 fewer-step false true at o u h e i = absurd (true≢false (sym (h refl)))
 fewer-step false false at o u h e i = i e
 

@@ -11,43 +11,6 @@ use Rattle.document.specs.Fonts.{entry_at, member, noted, number_by}
 use Rattle.document.specs.Windows.{Noted, Tells, again, again_by, stop_at, stop_of}
 use Rattle.document.proofs.Walks.{Walk, walk_on, walk_hit, walk_end, turn-number}
 
-outside : (w lo n : ℕ) (seen : List Bool) (ns : List ℕ) → Tells w lo seen ns → (n < lo) ⊎ (lo + w ≤ n) → Tells w lo seen (n ∷ ns)
-outside w lo n seen ns t (inl h) k a b = rw (ne_eqb k n (λ e. omega arith)) (t k a b)
-outside w lo n seen ns t (inr h) k a b = rw (ne_eqb k n (λ e. omega arith)) (t k a b)
-
-module _ (w lo n : ℕ) (seen : List Bool) (ns : List ℕ) (full : length seen ≡ w) (t : Tells w lo seen ns) (low : lo ≤ n) (high : n < lo + w) where
-  inside-at : (k : ℕ) → lo ≤ k → k < lo + w → (k ≡ n) ⊎ (k ≡ n → ⊥) → get_or (set seen (n - lo) true) (k - lo) false ≡ member k (n ∷ ns)
-  inside-at k a b (inl e) =
-      let lt : n - lo < length seen = omega arith in
-      rw (e, eq-eqb n n refl) (get_or-set_same seen (n - lo) true false lt)
-  inside-at k a b (inr h) =
-      let ne : k - lo ≢ n - lo = λ e. h (omega arith) in
-      rw (ne_eqb k n h) (get_or-set_other seen (n - lo) (k - lo) true false ne ∙ t k a b)
-
-  inside : Tells w lo (set seen (n - lo) true) (n ∷ ns)
-  inside k a b = inside-at k a b (cases_eq k n)
-
--- one number noted
-module _ (w lo : ℕ) (seen : List Bool) where
-  pub note_none : Noted w lo None seen seen false
-  note_none ns t = (refl, λ _. t)
-
-  module _ (n : ℕ) where
-    pub note_low : n < lo → Noted w lo (Some n) seen seen false
-    note_low h ns t = (rw (lt-leb lo n h), λ _. outside w lo n seen ns t (inl h))
-
-    module _ (low : lo ≤ n) where
-      pub note_high : lo + w ≤ n → Noted w lo (Some n) seen seen false
-      note_high h ns t = (rw (le-leb lo n low, le-ltb n (lo + w) h), λ _. outside w lo n seen ns t (inr h))
-
-      module _ (high : n < lo + w) where
-        pub note_twice : get_or seen (n - lo) false ≡ true → Noted w lo (Some n) seen seen true
-        note_twice g ns t = (rw (le-leb lo n low, lt-ltb n (lo + w) high) (sym g ∙ t n low high), λ f. absurd (true≢false f))
-
-        pub note_once : length seen ≡ w → get_or seen (n - lo) false ≡ false → Noted w lo (Some n) seen (set seen (n - lo) true) false
-        note_once full g ns t =
-            (rw (le-leb lo n low, lt-ltb n (lo + w) high) (sym g ∙ t n low high), λ _. inside w lo n seen ns full t low high)
-
 -- the walk with its table
 pub record Sofar (w : ℕ) (s : Entries) (lo : ℕ) (t : Entries) (seen : List Bool) : Type 0 where
   pub ns : List ℕ

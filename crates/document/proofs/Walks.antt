@@ -52,7 +52,7 @@ module _ (p : ℕ → List ℕ → Bool) (bs : List ℕ) where
   -- where it stops is not before where it starts, and before its end
   pub at_least : (at left skip : ℕ) (ns : List ℕ) (s : ℕ) → first_of p bs at left skip ns ≡ Some s → at ≤ s
   unfolding first_of
-  at_least at zero skip ns s e = absurd (let z : ◌≡◌ {A = ℕ} 0 1 = cc in omega arith)
+  at_least at zero skip ns s e = cc
   at_least at (suc l) (suc k) ns s e = let h : suc at ≤ s = at_least (suc at) l k ns s e in omega arith
   at_least at (suc l) zero ns s e = least_step (p at ns) at s _ (at_least (suc at) l ((entry_at bs at).span - 1) (noted bs at ns) s) e
 
@@ -62,7 +62,7 @@ module _ (p : ℕ → List ℕ → Bool) (bs : List ℕ) where
 
   pub before : (at left skip : ℕ) (ns : List ℕ) (s : ℕ) → first_of p bs at left skip ns ≡ Some s → s < at + left
   unfolding first_of
-  before at zero skip ns s e = absurd (let z : ◌≡◌ {A = ℕ} 0 1 = cc in omega arith)
+  before at zero skip ns s e = cc
   before at (suc l) (suc k) ns s e = let h : s < suc at + l = before (suc at) l k ns s e in omega arith
   before at (suc l) zero ns s e = before-step (p at ns) at l s _ (before (suc at) l ((entry_at bs at).span - 1) (noted bs at ns) s) e
 
