@@ -73,11 +73,8 @@ Above lo (Some hi) = lo ≤ hi
 
 -- a wider range of numbers is the narrower one and the rest
 wider_by : (fine m : Bool) (n lo : ℕ) (hi : Option ℕ) → Above lo hi → (not fine || (below hi n && m)) ≡ ((not fine || (ltb n lo && m)) || (leb lo n && (below hi n && m)))
-wider_by false m n lo hi h = refl
-wider_by true true n lo None h = grind (arith, nat_tests)
-wider_by true false n lo None h = grind (arith, nat_tests)
-wider_by true true n lo (Some k) h = grind (arith, nat_tests)
-wider_by true false n lo (Some k) h = grind (arith, nat_tests)
+wider_by fine m n lo None h = grind (arith, nat_tests)
+wider_by fine m n lo (Some k) h = grind (arith, nat_tests)
 
 wider-number : (fine : Bool) (o : Option ℕ) (ns : List ℕ) (lo : ℕ) (hi : Option ℕ) → Above lo hi → (not fine || used_below hi o ns) ≡ ((not fine || used_below (Some lo) o ns) || again_by lo hi o ns)
 wider-number true None ns lo hi h = refl
@@ -100,7 +97,7 @@ wider bs lo hi h at ns =
 
 none_below_0 : (o : Option ℕ) (ns : List ℕ) → used_below (Some 0) o ns ≡ false
 none_below_0 None ns = refl
-none_below_0 (Some n) ns = rw (le-ltb n 0 (omega arith))
+none_below_0 (Some n) ns = grind (arith, nat_tests)
 
 pub wrong_0 : (bs : List ℕ) (at : ℕ) (ns : List ℕ) → wrong bs (Some 0) at ns ≡ unfair bs at
 unfolding wrong
@@ -148,9 +145,7 @@ fewer p r h bs at (suc l) (suc k) ns e = fewer p r h bs (suc at) l k ns e
 fewer p r h bs at (suc l) zero ns e = fewer-step (p at ns) (r at ns) at _ _ (h at ns) e (fewer p r h bs (suc at) l ((entry_at bs at).span - 1) (noted bs at ns))
 
 again-within : (a b m : Bool) → (a && (b && m)) ≡ true → (a && b) ≡ true
-again-within true true m h = refl
-again-within true false m h = h
-again-within false b m h = h
+again-within a b m h = grind (arith, nat_tests)
 
 again-within-number : (lo : ℕ) (hi o : Option ℕ) (ns : List ℕ) → again_by lo hi o ns ≡ true → within_by lo hi o ≡ true
 again-within-number lo hi None ns h = h
