@@ -1,13 +1,12 @@
 -- The table of a window: what one command does to it, and the walk that keeps it. Assumes nothing.
-use Rattle.std.proofs.Common.{◌≡◌, ℕ, ◌+◌, ◌-◌, ◌<◌, ◌≤◌, Bool, true, false, ◌≢◌, ◌⊎◌, List, [], ◌∷◌, length, get_or, set, replicate, Some, None, Option, sym, refl, ap, ◌∙◌, inl, inr, arith, get_or-set_other, get_or-set_same}
+use Rattle.std.proofs.Common.{◌≡◌, ℕ, ◌+◌, ◌-◌, ◌≤◌, Bool, true, false, List, [], length, replicate, Some, Option, refl, ap, ◌∙◌, arith}
 use Rattle.std.proofs.lemmas.List.{get_or-replicate}
-use Rattle.std.proofs.lemmas.Bool.{eq-eqb, ne_eqb, le-leb, lt-ltb, cases_eq, lt-leb, le-ltb, true≢false}
 use Rattle.std.specs.Option.{option_map}
 use Rattle.commands.specs.declared.parts.Definition.{Definition}
 use Rattle.commands.specs.Shapes.{defines}
 use Rattle.document.specs.declared.entries.Entries.{Entries}
 use Rattle.document.specs.Entries.{Turns}
-use Rattle.document.specs.Fonts.{entry_at, member, noted, number_by}
+use Rattle.document.specs.Fonts.{entry_at, noted, number_by}
 use Rattle.document.specs.Windows.{Noted, Tells, again, again_by, stop_at, stop_of}
 use Rattle.document.proofs.Walks.{Walk, walk_on, walk_hit, walk_end, turn-number}
 
