@@ -3,7 +3,7 @@ ghost use Rattle.std.specs.Prelude.{◌≡◌, ◌≢◌, ℕ, ◌<◌, ◌≤�
 ghost use Rattle.document.specs.Pages.{past_comment};
 ghost use Rattle.document.specs.Legal.{sized, started, unit_at, units_before, bare};
 
-use crate::bytes::number;
+use numbers::number;
 use shelf::Refusal;
 
 const LEAST_LENGTH: usize = 54;

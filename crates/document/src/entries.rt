@@ -6,9 +6,8 @@ ghost use Rattle.shelf.specs.Names.{good_name};
 ghost use Rattle.document.specs.Fonts.{defined_at, fair, wide};
 ghost use Rattle.document.specs.Windows.{unfair};
 
-use crate::bytes::number;
 use commands::{Definition, definition_at};
-use numbers::is_size;
+use numbers::{is_size, number};
 
 const NOP: u32 = 138;
 

@@ -1,7 +1,6 @@
 // Legal documents: the checks that every document passes first, its pages and its fonts.
 #![tactic(auto)]
 
-mod bytes;
 mod cases;
 mod checks;
 mod documents;

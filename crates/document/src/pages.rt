@@ -2,8 +2,8 @@
 ghost use Rattle.std.specs.Prelude.{◌≡◌, ◌^◌, ◌<◌, IfSome};
 ghost use Rattle.document.specs.Pages.{page_before, page_place};
 
-use crate::bytes::number;
 use crate::documents::Document;
+use numbers::number;
 
 // The place of the page that comes k before the one at `last`.
 fn page_before(bytes: &[u8], k: usize, last: u32) -> u32

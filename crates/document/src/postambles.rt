@@ -6,12 +6,11 @@ ghost use Rattle.document.specs.Legal.{bare, ended, units_behind, placed, stated
 ghost use Rattle.document.specs.Pages.{leads, broken_pointer};
 ghost use Rattle.shelf.specs.declared.refusals.Refusal.TheVariants.{BrokenPostamble, BrokenPages};
 
-use crate::bytes::number;
 use crate::checks::{DEN, NUM, bare_length, check_number, past_comment};
 use crate::documents::Document;
 use crate::entries::Entries;
 use crate::windows::lawful_to;
-use numbers::part;
+use numbers::{number, part};
 use shelf::Refusal;
 
 const BOP: u32 = 139;
