@@ -11,8 +11,7 @@ mod entries;
 mod sample;
 
 // The worked values of docs/FORMATS.md and docs/REFUSALS.md follow from the definitions that the contracts cite.
-pub fn worked_values() -> u8
+pub fn worked_values()
     ensures { WorkedValues }
 {
-    0
 }

@@ -124,7 +124,7 @@ module _ (F : ℕ → Facts) where
         ∙ page-back ps (page_bytes F (progress F ps) p ++ rest) j counted.1 next.0 (omega arith) (omega arith)
 
     pub page-at : (ps : List Page) (rest : List ℕ) (j : ℕ) (p : Page) → AllByRecursion Counted ps → s ≡ body F mag ps ++ rest → slice_get ps j ≡ Some p → (more : List ℕ) × (drop (progress F (drop (suc j) ps)).used s ≡ page_bytes F (progress F (drop (suc j) ps)) p ++ more)
-    page-at [] rest j p counted e has = absurd (let z : ◌≡◌ {A = ℕ} 0 1 = cc in omega arith)
+    page-at [] rest j p counted e has = cc
     page-at (x ∷ ps) rest zero p counted e has =
         let same : x ≡ p = cc in
         (rest, (page_stands mag s x ps rest counted.1 e).1 ∙ ap (λ y. page_bytes F (progress F ps) y ++ rest) same)
@@ -133,7 +133,7 @@ module _ (F : ℕ → Facts) where
   -- a page's pairs are among those of the whole
   pub older_pairs : (m : Meaning) (ps : List Page) (j : ℕ) (p : Page) → AllByRecursion (GoodPage m) ps → slice_get ps j ≡ Some p → Grown (GoodPair m) (with_page F (progress F (drop (suc j) ps)) p).pairs (progress F ps).pairs
   unfolding progress
-  older_pairs m [] j p good has = absurd (let z : ◌≡◌ {A = ℕ} 0 1 = cc in omega arith)
+  older_pairs m [] j p good has = cc
   older_pairs m (x ∷ ps) zero p good has =
       let same : x ≡ p = cc in
       subst (λ y. Grown (GoodPair m) (with_page F (progress F ps) y).pairs (with_page F (progress F ps) x).pairs) same (grown_none (GoodPair m) (with_page F (progress F ps) x).pairs)

@@ -10,7 +10,7 @@ use Rattle.commands.specs.Definitions.{definition_at}
 use Rattle.copies.specs.declared.pairs.Pair.{Pair}
 use Rattle.copies.specs.Marks.{faces_of, define_bytes}
 use Rattle.copies.specs.Files.{fonts_bytes}
-use Rattle.document.specs.Fonts.{wide, defined_at, entry_of, entry_at, member, first_of, fair, unlawful, defines, defined_in}
+use Rattle.document.specs.Fonts.{wide, defined_at, entry_of, entry_at, member, first_of, fair, unlawful, has_number, defines, defined_in}
 use Rattle.document.proofs.Walks.{turn, hit, miss}
 use Rattle.readback.proofs.Stands.{behind, inside, head_at}
 use Rattle.readback.proofs.Commands.{Fields, defined_by, length_define, definition-at}
@@ -55,7 +55,7 @@ module _ (t : List ℕ) (at n size : ℕ) (f : Facts) (rest : List ℕ) (e : dro
 
   -- the definition has another number, or this one
   defines-is : (i : ℕ) (b : Bool) → eqb n i ≡ b → b ≡ defines t i at
-  defines-is i b q = sym q ∙ ap (λ x. x.defining && eqb x.number i) entry_is
+  defines-is i b q = sym q ∙ ap (λ x. has_number i x.number) entry_is
 
 -- no number from n on is among these
 abbrev Below : ℕ → List ℕ → Type 0
@@ -93,7 +93,7 @@ module _ (m : Meaning) (law : Lawful m) (t : List ℕ) where
 
   -- the definition of a number is that of its pair
   pub font-found : (ps : List Pair) (at n : ℕ) (ns : List ℕ) → AllByRecursion (GoodPair m) ps → n + length ps ≤ 64 → drop at t ≡ fonts_bytes F n ps → (i j : ℕ) (p : Pair) → i ≡ n + j → slice_get ps j ≡ Some p → defined_in t (first_of (λ k ms. defines t i k) t at (length t - at) 0 ns) ≡ Some (defined_by i p.size (F p.face))
-  font-found [] at n ns good few e i j p is has = absurd (let z : ◌≡◌ {A = ℕ} 0 1 = cc in omega arith)
+  font-found [] at n ns good few e i j p is has = cc
   font-found (q ∷ ps) at n ns good few e i zero p is has =
       let same : q ≡ p = cc in
       let f = F q.face in

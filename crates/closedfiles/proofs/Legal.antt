@@ -1,5 +1,6 @@
 -- The closed file passes each check of a legal document. Assumes nothing.
-use Rattle.std.proofs.Common.{◌≡◌, ℕ, ◌+◌, ◌-◌, ◌^◌, ◌<◌, ◌≤◌, eqb, leb, List, [], ◌∷◌, ◌++◌, length, get_or, take, drop, None, Ok, Option, Result, refl, ap, ◌∙◌, arith}
+use Rattle.std.proofs.Common.{◌≡◌, ℕ, ◌+◌, ◌-◌, ◌^◌, ◌<◌, ◌≤◌, eqb, leb, List, [], ◌∷◌, ◌++◌, length, get_or, take, drop, None, Ok, Result, refl, ap, ◌∙◌, arith}
+use Rattle.std.specs.Result.{result_and}
 use Rattle.std.proofs.lemmas.Bool.{le-leb, eq-eqb, and_from, cond-true}
 use Rattle.numbers.specs.Bytes.{digits}
 use Rattle.shelf.specs.declared.refusals.Refusal.{Refusal}
@@ -12,7 +13,7 @@ use Rattle.copies.specs.Files.{Opening, front_bytes, post_bytes, end_bytes, prog
 use Rattle.document.specs.declared.documents.Document.{Document}
 use Rattle.document.specs.Bytes.{four, two}
 use Rattle.document.specs.Fonts.{first_unlawful}
-use Rattle.document.specs.Legal.{sized, started, units_before, ended, units_behind, stated, after, after_place, judged_by, legal}
+use Rattle.document.specs.Legal.{sized, started, units_before, ended, units_behind, stated, placed, judged_by, legal}
 use Rattle.document.specs.Pages.{past_comment, broken_from, broken_pointer}
 use Rattle.readback.proofs.Stands.{behind, read_at, number-at}
 use Rattle.readback.proofs.Pages.{used-least, page-count, progress-pairs}
@@ -22,8 +23,8 @@ use Rattle.closedfiles.proofs.Fonts.{all_lawful}
 use Rattle.closedfiles.proofs.Chain.{four_is, last_fits, chain_whole}
 
 -- where no check fails, the last word stands
-passes : (a b c d e : Option Refusal) (f h : Option ℕ) (x y : ℕ → Refusal) (r : Result Document Refusal) → a ≡ None → b ≡ None → c ≡ None → d ≡ None → e ≡ None → f ≡ None → h ≡ None → after a (after b (after c (after d (after e (after_place f x (after_place h y r)))))) ≡ r
-passes a b c d e f h x y r p₁ p₂ p₃ p₄ p₅ p₆ p₇ = rw (p₁, p₂, p₃, p₄, p₅, p₆, p₇)
+passes : (a b c d e f h : Result (Unit {0}) Refusal) (r : Result Document Refusal) → a ≡ Ok tt → b ≡ Ok tt → c ≡ Ok tt → d ≡ Ok tt → e ≡ Ok tt → f ≡ Ok tt → h ≡ Ok tt → result_and a (result_and b (result_and c (result_and d (result_and e (result_and f (result_and h r)))))) ≡ r
+passes a b c d e f h r p₁ p₂ p₃ p₄ p₅ p₆ p₇ = rw (p₁, p₂, p₃, p₄, p₅, p₆, p₇)
 
 same_document : (a a' b b' c c' p p' e e' l l' t t' : ℕ) → a ≡ a' → b ≡ b' → c ≡ c' → p ≡ p' → e ≡ e' → l ≡ l' → t ≡ t' → ◌≡◌ {A = Document} (record { mag = a; l = b; u = c; post = p; end = e; last = l; pages = t }) (record { mag = a'; l = b'; u = c'; post = p'; end = e'; last = l'; pages = t' })
 same_document a a' b b' c c' p p' e e' l l' t t' p₁ p₂ p₃ p₄ p₅ p₆ p₇ = cc
@@ -113,16 +114,16 @@ module _ (m : Meaning) (law : Lawful m) (o : Opening) (ps : List Page) (w : Writ
       two_is s (now.used + 27) now.count _ (behind s (now.used + 1) (heads ++ (digits 4 o.mag ++ (digits 4 o.l ++ (digits 4 o.u ++ digits 2 0)))) _ from_last 26 (now.used + 27) refl (omega arith)) (omega (arith, w.few-pages, n)) ∙ n
 
   -- the checks, in their order
-  size-passes : sized s ≡ None
+  size-passes : sized s ≡ Ok tt
   size-passes =
       let least = used-least F ps in
       cond-true _ _ _ (and_from (leb 54 (length s)) _ (le-leb 54 (length s) (omega (arith, long, fill))) (le-leb (length s) 16777216 w.short))
 
-  start-passes : started s ≡ None
+  start-passes : started s ≡ Ok tt
   unfolding front_bytes
   start-passes = rw (front_byte 0 (omega arith), front_byte 1 (omega arith))
 
-  units_pass : units_before s ≡ None
+  units_pass : units_before s ≡ Ok tt
   units_pass = rw (num_before, den_before, mag-before, le-leb 1 o.mag w.mag-least, le-leb o.mag 32768 w.mag-most)
 
   end_byte : get_or s (end + 6 - 6) 0 ≡ 249
@@ -136,7 +137,7 @@ module _ (m : Meaning) (law : Lawful m) (o : Opening) (ps : List Page) (w : Writ
   unfolding post_bytes
   post_byte = read_at s now.used (248 ∷ []) _ (at_post F o ps w.counted) 0 now.used (omega arith) (omega arith)
 
-  ending-passes : ended s (end + 6) now.used ≡ None
+  ending-passes : ended s (end + 6) now.used ≡ Ok tt
   ending-passes =
       let least = used-least F ps in
       let past = past_comment_lem in
@@ -149,7 +150,7 @@ module _ (m : Meaning) (law : Lawful m) (o : Opening) (ps : List Page) (w : Writ
       (and_from (leb (now.used + 29) (end + 6 - 6)) _ (le-leb (now.used + 29) (end + 6 - 6) (omega arith))
       (eq-eqb (get_or s now.used 0) 248 post_byte)))))))
 
-  behind-passes : units_behind s now.used ≡ None
+  behind-passes : units_behind s now.used ≡ Ok tt
   behind-passes = rw (num_behind, den_behind, mag-behind, mag-before, eq-eqb o.mag o.mag refl)
 
   before-end : take (end + 6 - 6) s ≡ take end s
@@ -182,6 +183,6 @@ module _ (m : Meaning) (law : Lawful m) (o : Opening) (ps : List Page) (w : Writ
   closed-legal =
       ap (λ k. judged_by s k (four s (k - 5))) (bare-is F o ps w.counted)
       ∙ ap (judged_by s (end + 6)) post_place
-      ∙ passes (sized s) (started s) (units_before s) (ended s (end + 6) now.used) (units_behind s now.used) (first_unlawful (take (end + 6 - 6) s) (now.used + 29)) (broken_pointer s now.used) BrokenPostamble BrokenPages (Ok (stated s now.used (end + 6 - 6)))
-      size-passes start-passes units_pass ending-passes behind-passes fonts_pass pages_pass
+      ∙ passes (sized s) (started s) (units_before s) (ended s (end + 6) now.used) (units_behind s now.used) (placed BrokenPostamble (first_unlawful (take (end + 6 - 6) s) (now.used + 29))) (placed BrokenPages (broken_pointer s now.used)) (Ok (stated s now.used (end + 6 - 6)))
+      size-passes start-passes units_pass ending-passes behind-passes (ap (placed BrokenPostamble) fonts_pass) (ap (placed BrokenPages) pages_pass)
       ∙ ap Ok stated-is

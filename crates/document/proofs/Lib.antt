@@ -4,3 +4,4 @@ pub mod Walks
 pub mod Found
 pub mod Notes
 pub mod Joins
+pub mod Least

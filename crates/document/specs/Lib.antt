@@ -2,5 +2,6 @@ pub mod Bytes
 pub mod Pages
 pub mod Fonts
 pub mod Windows
+pub mod Entries
 pub mod Legal
 pub mod Cases

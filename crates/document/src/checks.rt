@@ -1,9 +1,9 @@
-// The checks of a document's length, its start, its units and its ending.
-ghost use Rattle.std.specs.Prelude.{◌≡◌, ◌+◌, ◌-◌, ◌^◌, ◌<◌, ◌≤◌, length, IfNone};
+// The checks of a document's length, its start and its units, and what stands at its end.
+ghost use Rattle.std.specs.Prelude.{◌≡◌, ◌≢◌, ℕ, ◌<◌, ◌≤◌, length, slice_index, IfSome, IfNone};
 ghost use Rattle.document.specs.Pages.{past_comment};
-ghost use Rattle.document.specs.Legal.{sized, started, units_before, bare, ended, units_behind};
+ghost use Rattle.document.specs.Legal.{sized, started, unit_at, units_before, bare};
 
-use crate::bytes::{byte_at, four_at};
+use numbers::number;
 use shelf::Refusal;
 
 const LEAST_LENGTH: usize = 54;
@@ -11,112 +11,79 @@ const LEAST_LENGTH: usize = 54;
 const MOST_LENGTH: usize = 16_777_216;
 
 // num and den of every document: its lengths are in 1/65,536 printer's points.
-const NUM: u32 = 25_400_000;
+pub(crate) const NUM: u32 = 25_400_000;
 
-const DEN: u32 = 473_628_672;
+pub(crate) const DEN: u32 = 473_628_672;
 
 const MOST_MAG: u32 = 32_768;
 
 const FILL: u8 = 223;
 
-pub(crate) fn check_length(bytes: &[u8]) -> Option<Refusal>
-    ensures value { result ≡ sized bytes.now }
-    ensures bound { IfNone result ((54 ≤ length bytes.now) × (length bytes.now ≤ 16777216)) }
+pub(crate) fn check_length(bytes: &[u8]) -> Result<(), Refusal>
+    ensures { result ≡ sized bytes.now }
 {
-    if bytes.len() >= LEAST_LENGTH && bytes.len() <= MOST_LENGTH {
-        None
+    let length = bytes.len();
+    if (LEAST_LENGTH..=MOST_LENGTH).contains(&length) {
+        Ok(())
     } else {
-        Some(Refusal::DocumentLength {
-            length: bytes.len(),
-        })
+        Err(Refusal::DocumentLength { length })
     }
 }
 
-pub(crate) fn check_start(bytes: &[u8]) -> Option<Refusal>
-    requires { 54 ≤ length bytes.now }
+pub(crate) fn check_start(bytes: &[u8]) -> Result<(), Refusal>
     ensures { result ≡ started bytes.now }
 {
     match bytes {
-        [247, 2, ..] => None,
-        [247, ..] => Some(Refusal::NotDocument { place: 1 }),
-        _ => Some(Refusal::NotDocument { place: 0 }),
+        [247, 2, ..] => Ok(()),
+        [247, ..] => Err(Refusal::NotDocument { place: 1 }),
+        _ => Err(Refusal::NotDocument { place: 0 }),
     }
 }
 
-pub(crate) fn check_units(bytes: &[u8]) -> Option<Refusal>
+#[tactic(auto, unfolding(crate::specs::Bytes::four))]
+pub(crate) fn check_units(bytes: &[u8]) -> Result<(), Refusal>
     ensures { result ≡ units_before bytes.now }
 {
-    if four_at(bytes, 2) != NUM {
-        return Some(Refusal::WrongUnits { place: 2 });
-    }
-    if four_at(bytes, 6) != DEN {
-        return Some(Refusal::WrongUnits { place: 6 });
-    }
-    let mag = four_at(bytes, 10);
-    if mag >= 1 && mag <= MOST_MAG {
-        None
+    check_number(bytes, 2, NUM)?;
+    check_number(bytes, 6, DEN)?;
+    if (1..=MOST_MAG).contains(&number(bytes, 10, 4)) {
+        Ok(())
     } else {
-        Some(Refusal::WrongUnits { place: 10 })
+        Err(Refusal::WrongUnits { place: 10 })
+    }
+}
+
+// Whether a unit stands in four bytes at a place.
+#[tactic(auto, unfolding(crate::specs::Bytes::four))]
+pub(crate) fn check_number(bytes: &[u8], place: usize, unit: u32) -> Result<(), Refusal>
+    ensures { result ≡ unit_at bytes.now place unit }
+{
+    if number(bytes, place, 4) == unit {
+        Ok(())
+    } else {
+        Err(Refusal::WrongUnits { place })
     }
 }
 
 // The length without the 223s at the end.
 pub(crate) fn bare_length(bytes: &[u8]) -> usize
-    ensures value { result ≡ bare bytes.now (length bytes.now) }
-    ensures bound { result ≤ length bytes.now }
+    ensures { result ≡ bare bytes.now (length bytes.now) }
 {
-    let mut m = bytes.len();
-    while m > 0 && bytes[m - 1] == FILL {
-        m -= 1;
-    }
-    m
+    last_other(bytes).map_or(0, |i| i + 1)
+}
+
+// The place of the last byte that is no 223.
+fn last_other(bytes: &[u8]) -> Option<usize>
+    ensures none { IfNone result ((k : ℕ) → k < length bytes.now → slice_index bytes.now k ≡ 223) }
+    ensures some { IfSome result (λ i. (i < length bytes.now) × (slice_index bytes.now i ≢ 223)) }
+    ensures behind { (k : ℕ) → IfSome result (λ i. i < k → k < length bytes.now → slice_index bytes.now k ≡ 223) }
+{
+    bytes.iter().rposition(|b| *b != FILL)
 }
 
 // The place after the comment.
 pub(crate) fn past_comment(bytes: &[u8]) -> usize
-    ensures value { result ≡ past_comment bytes.now }
-    ensures bound { result < 271 }
+    ensures { result ≡ past_comment bytes.now }
 {
-    15 + byte_at(bytes, 14) as usize
-}
-
-pub(crate) fn check_ending(bytes: &[u8], m: usize, q: usize) -> Option<Refusal>
-    requires { (m ≤ length bytes.now) × (q < 2 ^ 32) }
-    ensures value { result ≡ ended bytes.now m q }
-    ensures bound { IfNone result ((q + 29 ≤ m - 6) × (m ≤ length bytes.now)) }
-{
-    let from = past_comment(bytes);
-    let id = byte_at(bytes, m.saturating_sub(1));
-    let last = byte_at(bytes, m.saturating_sub(6));
-    let here = byte_at(bytes, q);
-    if bytes.len() - m >= 4
-        && m >= 6
-        && id == 2
-        && last == 249
-        && from <= q
-        && q + 35 <= m
-        && here == 248
-    {
-        None
-    } else {
-        Some(Refusal::BrokenEnding {
-            length: bytes.len(),
-        })
-    }
-}
-
-pub(crate) fn check_units_behind(bytes: &[u8], q: usize) -> Option<Refusal>
-    requires { q < 2 ^ 32 }
-    ensures { result ≡ units_behind bytes.now q }
-{
-    if four_at(bytes, q + 5) != NUM {
-        return Some(Refusal::WrongUnits { place: q + 5 });
-    }
-    if four_at(bytes, q + 9) != DEN {
-        return Some(Refusal::WrongUnits { place: q + 9 });
-    }
-    if four_at(bytes, q + 13) != four_at(bytes, 10) {
-        return Some(Refusal::WrongUnits { place: q + 13 });
-    }
-    None
+    15 + number(bytes, 14, 1) as usize
 }

@@ -1,6 +1,6 @@
 // What a legal document states, and where.
 
-#[derive(Clone, Copy)]
+#[derive(Clone, Copy, Debug, PartialEq, Eq)]
 pub struct Document {
     pub mag: u32,
     // the height and width of the largest page, as the postamble has them

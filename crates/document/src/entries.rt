@@ -1,77 +1,90 @@
-// The commands of the postamble as a walk over them goes. The bytes given here end where the 249 stands.
-ghost use Rattle.std.specs.Prelude.{◌≡◌, ◌+◌, ◌<◌, ◌≤◌, length, Some};
+// The commands of the postamble: an iterator over them, and which of them are fair.
+ghost use Rattle.std.specs.Prelude.{◌≡◌, length, Some};
+ghost use Rattle.std.specs.Option.{option_map};
 ghost use Rattle.commands.specs.Shapes.{defines};
 ghost use Rattle.shelf.specs.Names.{good_name};
-ghost use Rattle.document.specs.Fonts.{defined_at, entry_at, fair, wide};
+ghost use Rattle.document.specs.Fonts.{defined_at, fair, wide};
 ghost use Rattle.document.specs.Windows.{unfair};
 
 use commands::{Definition, definition_at};
-use numbers::is_size;
+use numbers::{is_size, number};
 
-const NOP: u8 = 138;
+const NOP: u32 = 138;
 
 // The first byte of a definition is this and the width of its font number.
 const BEFORE_DEFINITIONS: usize = 242;
 
-// Whether a command is a definition, its font number, and how many bytes it has.
+// The commands that stand from `at` on and before `to`: the place of each, and its definition if it is one.
+// The bytes end where the 249 stands.
 #[derive(Clone, Copy)]
-pub(crate) struct Entry {
-    pub(crate) defining: bool,
-    pub(crate) number: u32,
-    pub(crate) span: usize,
+pub(crate) struct Entries<'a> {
+    pub(crate) front: &'a [u8],
+    pub(crate) at: usize,
+    pub(crate) to: usize,
+}
+
+impl<'a> Entries<'a> {
+    // All commands from a place on.
+    pub(crate) fn new(front: &'a [u8], at: usize) -> Entries<'a>
+        ensures front { result.front.now ≡ front.now }
+        ensures at { result.at ≡ at }
+        ensures to { result.to ≡ length result.front.now }
+    {
+        Entries {
+            front,
+            at,
+            to: front.len(),
+        }
+    }
+}
+
+impl<'a> Iterator for Entries<'a> {
+    ghost use Rattle.std.specs.Prelude.{◌-◌};
+    ghost use Rattle.std.specs.Iterator.{at_most};
+    ghost use Rattle.document.specs.Entries.{GivesEntry};
+
+    type Item = (usize, Option<Definition<'a>>);
+
+    ghost next_gives = { GivesEntry };
+
+    ghost remaining = { λ s. at_most (s.to - s.at) };
+
+    fn next(&mut self) -> Option<(usize, Option<Definition<'a>>)> {
+        let at = self.at;
+        if at >= self.to {
+            return None;
+        }
+        let width = width_at(self.front, at);
+        match definition_at(self.front, at, width) {
+            Some(d) => {
+                self.at = at + width + 15 + d.name.len();
+                Some((at, Some(d)))
+            }
+            None => {
+                self.at = at + 1;
+                Some((at, None))
+            }
+        }
+    }
 }
 
 // In how many bytes the font number stands, if the command is a definition.
-pub(crate) fn width_at(front: &[u8], at: usize) -> usize
-    requires { at < length front.now }
+fn width_at(front: &[u8], at: usize) -> usize
     ensures { result ≡ wide front.now at }
 {
-    usize::from(front[at]).saturating_sub(BEFORE_DEFINITIONS)
-}
-
-pub(crate) fn entry_at(front: &[u8], at: usize) -> Entry
-    requires { at < length front.now }
-    ensures is { result ≡ entry_at front.now at }
-    ensures within { (0 < result.span) × (at + result.span ≤ length front.now) }
-{
-    let width = width_at(front, at);
-    match definition_at(front, at, width) {
-        Some(d) => Entry {
-            defining: true,
-            number: d.number,
-            span: width + 15 + d.name.len(),
-        },
-        None => Entry {
-            defining: false,
-            number: 0,
-            span: 1,
-        },
-    }
+    (number(front, at, 1) as usize).saturating_sub(BEFORE_DEFINITIONS)
 }
 
 // Whether a command is neither a 138 nor a fair definition.
-pub(crate) fn is_unfair(front: &[u8], at: usize) -> bool
-    requires { at < length front.now }
+pub(crate) fn is_unfair(front: &[u8], at: usize, definition: Option<Definition<'_>>) -> bool
+    requires { option_map defines definition ≡ defined_at front.now at }
     ensures { result ≡ unfair front.now at }
 {
-    if front[at] == NOP {
-        return false;
-    }
-    !is_fair(front, at)
+    number(front, at, 1) != NOP && !definition.is_some_and(is_fair)
 }
 
-// Whether a definition stands there, with sizes and a name as they must be.
-fn is_fair(front: &[u8], at: usize) -> bool
-    requires { at < length front.now }
-    ensures { result ≡ fair (defined_at front.now at) }
-{
-    match definition_at(front, at, width_at(front, at)) {
-        Some(d) => is_fair_definition(d),
-        None => false,
-    }
-}
-
-fn is_fair_definition(d: Definition) -> bool
+// Whether a definition has sizes and a name as they must be.
+fn is_fair(d: Definition<'_>) -> bool
     ensures { result ≡ fair (Some (defines d.entry)) }
 {
     is_size(d.size) && is_size(d.design) && is_name(d.name)
@@ -80,5 +93,5 @@ fn is_fair_definition(d: Definition) -> bool
 fn is_name(name: &[u8]) -> bool
     ensures { result ≡ good_name name.now }
 {
-    0 < name.len() && name.len() < 64
+    (1..64).contains(&name.len())
 }

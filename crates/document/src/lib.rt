@@ -1,7 +1,6 @@
 // Legal documents: the checks that every document passes first, its pages and its fonts.
 #![tactic(auto)]
 
-mod bytes;
 mod cases;
 mod checks;
 mod documents;
@@ -9,6 +8,7 @@ mod entries;
 mod fonts;
 mod legality;
 mod pages;
+mod postambles;
 mod windows;
 
 pub use cases::legal_cases;

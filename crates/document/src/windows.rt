@@ -1,123 +1,94 @@
 // A font number used again in the postamble, found without a look at all definitions for each of them:
 // the numbers are taken window by window, and a table says which of a window have come.
-ghost use Rattle.std.specs.Prelude.{◌≡◌, ℕ, ◌+◌, ◌-◌, ◌^◌, ◌<◌, ◌≤◌, false, [], length, None};
-ghost use Rattle.document.specs.Fonts.{first_of, first_unlawful};
-ghost use Rattle.document.specs.Windows.{Noted, again, stop_at, within as in_window, within_by, wrong};
+ghost use Rattle.std.specs.Prelude.{◌≡◌, ℕ, ◌+◌, ◌-◌, ◌^◌, ◌<◌, ◌≤◌, false, [], length, Some, None, Option, IfSome};
+ghost use Rattle.std.specs.Option.{option_map};
+ghost use Rattle.commands.specs.Shapes.{defines};
+ghost use Rattle.document.specs.Fonts.{number_by, first_of, unlawful};
+ghost use Rattle.document.specs.Windows.{Noted, again, from_on, stop_at, within as in_window, wrong};
 
-use crate::entries::{Entry, entry_at, is_unfair};
+use crate::entries::{Entries, is_unfair};
+use commands::Definition;
+use std::mem;
 
 // How many numbers a window has.
 const WINDOW: usize = 4_194_304;
 
-// Above every font number, with a window's room below.
-const BEYOND: usize = 4_299_161_600;
-
-// The place of the first command that is neither a 138 nor a fair definition of a number not used before.
-pub(crate) fn check_postamble(front: &[u8], from: usize) -> Option<usize>
-    ensures { result ≡ first_unlawful front.now from }
+// Where the first command stands that is neither a 138 nor a fair definition of a number not used before.
+// The end where there is none, and no Option, since each place found bounds the next walk.
+pub(crate) fn lawful_to(entries: Entries<'_>) -> usize
+    ensures { result ≡ stop_at (unlawful entries.entry.front.now) entries.entry.front.now entries.entry.at entries.entry.to }
 {
-    let stop = first_wrong(front, from);
-    if stop < front.len() { Some(stop) } else { None }
-}
-
-// The same place; the end where there is none. Windows without a number are passed over.
-fn first_wrong(front: &[u8], from: usize) -> usize
-    ensures { result ≡ stop_at (wrong front.now 4299161600) front.now from (length front.now) }
-{
-    let mut stop = first_unfair(front, from);
-    let mut lim = least(front, from, stop, 0);
-    while lim < BEYOND {
-        stop = window(front, from, stop, lim);
-        lim = least(front, from, stop, lim + WINDOW);
+    let mut lawful = entries;
+    lawful.to = fair_to(entries);
+    let mut lo = 0;
+    while let Some(n) = least(lawful, lo) {
+        lawful.to = window::<WINDOW>(lawful, n);
+        lo = n + WINDOW;
     }
-    stop
+    lawful.to
 }
 
 // Where the first command stands that is neither a 138 nor a fair definition; the end where none does.
-fn first_unfair(front: &[u8], from: usize) -> usize
-    ensures value { result ≡ stop_at (wrong front.now 0) front.now from (length front.now) }
-    ensures bound { result ≤ length front.now }
+fn fair_to(entries: Entries<'_>) -> usize
+    ensures { result ≡ stop_at (wrong entries.entry.front.now (Some 0)) entries.entry.front.now entries.entry.at entries.entry.to }
 {
-    let mut at = from;
-    while at < front.len() {
-        if is_unfair(front, at) {
+    for (at, definition) in entries {
+        if is_unfair(entries.front, at, definition) {
             return at;
         }
-        at += entry_at(front, at).span;
     }
-    front.len()
+    entries.to
 }
 
-// Where a number of the window from `lo` on is first used again before `stop`; `stop` where none is.
-fn window(front: &[u8], from: usize, stop: usize, lo: usize) -> usize
-    requires { (stop ≤ length front.now) × (lo < 2 ^ 40) }
-    ensures value { result ≡ stop_at (again front.now lo (lo + 4194304)) front.now from stop }
-    ensures bound { result ≤ stop }
+// Where one of the N numbers from `lo` on is first used again; the end where none is.
+fn window<const N: usize>(entries: Entries<'_>, lo: usize) -> usize
+    requires { N < 2 ^ 63 }
+    ensures { result ≡ stop_at (again entries.entry.front.now lo (Some (lo + N))) entries.entry.front.now entries.entry.at entries.entry.to }
 {
-    let mut seen = [false; 4194304];
-    let mut at = from;
-    while at < stop {
-        let e = entry_at(front, at);
-        if note(&mut seen, e, lo) {
+    // a fixed table, since calls of the library allocate nothing
+    let mut seen = [false; N];
+    for (at, definition) in entries {
+        if note(&mut seen, number_of(definition), lo) {
             return at;
         }
-        at += e.span;
     }
-    stop
+    entries.to
 }
 
-// Notes a command's number in the table of a window; true where it is there already.
-fn note(seen: &mut [bool], e: Entry, lo: usize) -> bool
-    requires { (lo < 2 ^ 40) × (length seen.old ≡ 4194304) }
-    ensures { Noted lo e seen.old seen.new result }
+// Notes a number in the table of a window; true where it is there already.
+fn note(seen: &mut [bool], number: Option<usize>, lo: usize) -> bool
+    ensures noted { Noted (length seen.old) lo number seen.old seen.new result }
+    ensures long { length seen.new ≡ length seen.old }
 {
-    if !e.defining {
-        return false;
+    // an index, since `get_mut` does not say what a write through it leaves
+    match number {
+        Some(n) if lo <= n && n - lo < seen.len() => mem::replace(&mut seen[n - lo], true),
+        _ => false,
     }
-    let n = e.number as usize;
-    if n < lo {
-        return false;
-    }
-    if n - lo >= WINDOW {
-        return false;
-    }
-    if seen[n - lo] {
-        return true;
-    }
-    seen[n - lo] = true;
-    false
 }
 
-// The least number from `lo` on that is defined before `stop`.
-fn least(front: &[u8], from: usize, stop: usize, lo: usize) -> usize
-    requires { (stop ≤ length front.now) × (lo ≤ 4299161600) }
-    ensures none { first_of (in_window front.now lo result) front.now from (stop - from) 0 [] ≡ None }
-    ensures bound { (lo ≤ result) × ((result ≤ 4299161600) × ((result < 4299161600 → result < 4294967296))) }
+// The least number from `lo` on that is defined.
+fn least(entries: Entries<'_>, lo: usize) -> Option<usize>
+    ensures none { first_of (in_window entries.entry.front.now lo result) entries.entry.front.now entries.entry.at (entries.entry.to - entries.entry.at) 0 [] ≡ None }
+    ensures bound { IfSome result (λ n. (lo ≤ n) × (n < 2 ^ 32)) }
 {
-    let mut best = BEYOND;
-    let mut at = from;
-    while at < stop {
-        let e = entry_at(front, at);
-        best = lower(e, lo, best);
-        at += e.span;
-    }
-    best
+    entries
+        .filter_map(|(_, definition)| number_from(definition, lo))
+        .min()
 }
 
-// The number of a command if it is from `lo` on and below `best`, else `best`.
-fn lower(e: Entry, lo: usize, best: usize) -> usize
-    ensures none { (hi : ℕ) → hi ≤ result → false ≡ within_by lo hi e }
-    ensures bound { (result ≤ best) × (((lo ≤ best → lo ≤ result)) × ((result < best → result < 4294967296))) }
+// The font number that a command defines, if it is from `lo` on.
+fn number_from(definition: Option<Definition<'_>>, lo: usize) -> Option<usize>
+    ensures value { result ≡ from_on lo (number_by (option_map defines definition.entry)) }
+    ensures bound { IfSome result (λ n. (lo ≤ n) × (n < 2 ^ 32)) }
 {
-    if !e.defining {
-        return best;
-    }
-    let n = e.number as usize;
-    if n < lo {
-        return best;
-    }
-    if n >= best {
-        return best;
-    }
-    n
+    number_of(definition).filter(|n| lo <= *n)
+}
+
+// The font number that a command defines.
+fn number_of(definition: Option<Definition<'_>>) -> Option<usize>
+    ensures value { result ≡ number_by (option_map defines definition.entry) }
+    ensures bound { IfSome result (λ n. n < 2 ^ 32) }
+{
+    definition.map(|d| d.number as usize)
 }

@@ -1,10 +1,7 @@
--- The walk from here finds what the walk from the start does.
-use Rattle.std.proofs.Common.{◌-◌, length}
-use Rattle.document.proofs.Found.{Sought}
+-- The font has not been defined so far.
+use Rattle.document.specs.Fonts.{defines}
+use Rattle.document.proofs.Walks.{Walked}
 use Rattle.document.proofs.fonts.font_from.Given as goal
 
-abbrev pub invariant-loop-at : goal.invariant-loop-at
-invariant-loop-at l = Sought l.front l.number l.from l.at
-
-abbrev pub decreases-loop-at : goal.decreases-loop-at
-decreases-loop-at l = length l.front - l.at
+abbrev pub invariant-loop-definition : goal.invariant-loop-definition
+invariant-loop-definition l = Walked (λ k ms. defines l.entries.front.now l.number k) l.entries l.definition-iterator

@@ -1,14 +1,10 @@
--- One command more.
-use Rattle.std.proofs.Common.{rules}
-use Rattle.document.proofs.Joins.{least_start, least_on, least-all}
+-- By the numbers that the walk gives.
+use Rattle.std.proofs.Common.{◌∙◌, rules}
+use Rattle.document.proofs.Least.{number_from, least_is}
 use Rattle.document.proofs.windows.least.Goals as goal
 
-pub loop-at-init : goal.loop-at-init
-loop-at-init c = (least_start _ _ _ _ _, search rules, search rules, search rules)
-
-pub loop-at-preserved : goal.loop-at-preserved
-loop-at-preserved c =
-    (least_on _ _ _ _ _ _ _ _ c.entry_at-e.ensures.is c.loop-at-test.true c.entry_at-e.ensures.within.0 c.lower-best.ensures.bound.0 c.lower-best.ensures.none c.loop-at.invariant.0, search rules, search rules, search rules)
-
-pub returns : goal.returns
-returns c = record { none = least-all _ _ _ _ _ _ c.loop-at-test.false c.loop-at.invariant.0; bound = search rules }
+pub returns-clause-none : goal.returns-clause-none
+returns-clause-none c =
+    let m = c.min.ensures.runs in
+    let f = c.filter_map.ensures.runs m.0 m.0.seen m.1 in
+    least_is m.0 f.0 c.args.entries c.args.lo c.min.result m.3 f.1 (f.2.0 ∙ m.2) (f.2.3 (number_from c.args.lo) (λ x r g k. search rules))

@@ -1,7 +1,0 @@
--- Past the end.
-use Rattle.std.proofs.Common.{sym, rules}
-use Rattle.std.proofs.lemmas.List.{get_or_past}
-use Rattle.document.proofs.bytes.byte_at.Goals as goal
-
-pub returns-else-at-bytes : goal.returns-else-at-bytes
-returns-else-at-bytes c = record { value = sym (get_or_past c.args.bytes.now c.args.at 0 (search rules)); bound = search rules }
