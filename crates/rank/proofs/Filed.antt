@@ -1,9 +1,10 @@
 -- Files added one after the other. Assumes nothing.
 use Rattle.std.proofs.Common.{◌≡◌, ℕ, ◌+◌, ◌<◌, ◌≤◌, min, List, [], ◌∷◌, ◌++◌, map, length, get_or, take, drop, set, Result, sym, refl, ap, ◌∙◌, arith}
-use Rattle.std.proofs.lemmas.List.{take-map, take_more, take_more_set, drop-set-lt, drop-drop, length-set}
+use Rattle.std.proofs.lemmas.List.{length-map, get_or-map, take-map, take_more, take_more_set, drop-set-lt, drop-drop, length-set}
 use Rattle.shelf.specs.declared.refusals.Refusal.{Refusal}
 use Rattle.shelf.specs.Meaning.{Meaning}
-use Rattle.rank.specs.Adding.{Added, AllAdded, Given, added, next_added, added_all}
+use Rattle.rank.specs.declared.filing.Offer.{Offer}
+use Rattle.rank.specs.Adding.{Added, AllAdded, Given, given_by, added, next_added, added_all}
 use Rattle.rank.specs.Entries.{Entry}
 
 -- after k files: what is taken and answered, and the other answers as they were
@@ -38,6 +39,13 @@ module _ (m : Meaning) (es₀ : List Entry) (offers : List Given) (answers₀ : 
             ∙ sym (ap (added_all m (es₀, [])) (take_more offers k g lo ∙ ap (λ x. take k offers ++ x ∷ []) is) ∙ all_push m (es₀, []) (take k offers) g);
         rest = drop-set-lt (k + 1) answers k r (omega arith) ∙ sym (drop-drop 1 k answers) ∙ ap (drop 1) f.rest ∙ drop-drop 1 k answers₀;
       }
+
+-- the file that stands at k among the offers
+pub one_offered : (m : Meaning) (es₀ es es' : List Entry) (offers : List Offer) (answers₀ answers : List (Result (Unit {0}) Refusal)) (k : ℕ) (d : Offer) (r : Result (Unit {0}) Refusal) → Filed m es₀ es (map given_by offers) answers₀ answers k → k < length offers → k < length answers → (es', r) ≡ added m es (get_or offers k d).name.now (get_or offers k d).file.now → Filed m es₀ es' (map given_by offers) answers₀ (set answers k r) (k + 1)
+one_offered m es₀ es es' offers answers₀ answers k d r f lo la e =
+    let l = length-map offers given_by in
+    let g = given_by (get_or offers k d) in
+    one_filed m es₀ (map given_by offers) answers₀ es es' answers k g r f (omega arith) la (get_or-map given_by offers k d g lo) e
 
 -- at the end of the shorter list
 pub all_filed : {O : Type 0} (m : Meaning) (given : O → Given) (es₀ es : List Entry) (offers : List O) (answers₀ answers : List (Result (Unit {0}) Refusal)) (k : ℕ) → Filed m es₀ es (map given offers) answers₀ answers k → min (length offers) (length answers₀) ≡ k → ((es, take (min (length offers) (length answers₀)) answers) ≡ added_all m (es₀, []) (map given (take (min (length offers) (length answers₀)) offers))) × (drop (min (length offers) (length answers₀)) answers ≡ drop (min (length offers) (length answers₀)) answers₀)

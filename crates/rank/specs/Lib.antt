@@ -4,3 +4,4 @@ pub mod Ranks
 pub mod Adding
 pub mod Lawfuls
 pub mod Named
+pub mod Held

@@ -5,8 +5,8 @@ ghost use Rattle.shelf.specs.Names.{found_in};
 ghost use Rattle.shelf.specs.Spelling.{spelled};
 ghost use Rattle.vf.specs.Fonts.{font_of};
 ghost use Rattle.rank.specs.Adding.{added, lacking, free};
-ghost use Rattle.rank.specs.Entries.{entries_of, in_all};
-ghost use Rattle.rank.specs.Ranks.{rank_of, RankOk};
+ghost use Rattle.rank.specs.Held.{files_of};
+ghost use Rattle.rank.specs.Ranks.{rank_of};
 
 use crate::fonts::Font;
 use crate::ranks::Rank;
@@ -23,7 +23,9 @@ const MAX_FONTS: u16 = 4096;
 impl<S: Shelf + Drop> Rank<S> {
     // A rank with no file, and memory for all that it may be given.
     pub fn new(below: S, heap: Global) -> Result<Rank<S>, AllocError>
-        ensures { IfOk result (λ k. (k.below ≡ below) × (k.bytes.items ≡ []) × (k.fonts.items ≡ []) × (S.sound below → RankOk (S.means k.below) (entries_of k.bytes.items k.fonts.items))) }
+        ensures below { IfOk result (λ k. k.below ≡ below) }
+        ensures bytes { IfOk result (λ k. k.bytes.items ≡ []) }
+        ensures files { IfOk result (λ k. k.fonts.items ≡ []) }
     {
         let bytes = Vec::with_capacity(heap, MAX_BYTES)?;
         let fonts = Vec::with_capacity(heap, MAX_FILES)?;
@@ -38,31 +40,30 @@ impl<S: Shelf + Drop> Rank<S> {
 // Whether there is no room for so many bytes more.
 fn no_room(files: usize, bytes: usize, fonts: u16, more: usize) -> bool
     ensures is { result ≡ lacking files bytes fonts more }
-    ensures room { result ≡ false → (files < 8) × (bytes + more ≤ 32768) × (fonts < 4096) }
+    ensures files { result ≡ false → files < 8 }
+    ensures bytes { result ≡ false → bytes + more ≤ 32768 }
+    ensures fonts { result ≡ false → fonts < 4096 }
 {
-    if files >= MAX_FILES || bytes > MAX_BYTES || more > MAX_BYTES {
-        return true;
-    }
-    bytes + more > MAX_BYTES || fonts >= MAX_FONTS
+    files >= MAX_FILES || bytes.saturating_add(more) > MAX_BYTES || fonts >= MAX_FONTS
 }
 
 impl<S: Shelf> Rank<S> {
     // The name that a new font is given; none where it has not 1 to 63 bytes, or a font bears it already.
     fn new_name(&self, bytes: &[u8]) -> Option<Name>
-        ensures is { option_map spelled result ≡ (if free (rank_of (S.means self.now.below) (entries_of self.now.bytes.items self.now.fonts.items)).names bytes.now then Some bytes.now else None) }
-        ensures fresh { IfSome result (λ n. found_in (rank_of (S.means self.now.below) (entries_of self.now.bytes.items self.now.fonts.items)).names (spelled n) ≡ None) }
+        ensures is { option_map spelled result ≡ (if free (rank_of (S.means self.now.below) (files_of self.now)).names bytes.now then Some bytes.now else None) }
+        ensures fresh { IfSome result (λ n. found_in (rank_of (S.means self.now.below) (files_of self.now)).names (spelled n) ≡ None) }
     {
         let name = Name::new(bytes)?;
-        match self.find(bytes) {
-            None => Some(name),
-            Some(_) => None,
-        }
+        self.find(bytes).is_none().then_some(name)
     }
 
     // Puts a file behind the others; the memory for it is there.
     fn keep(&mut self, name: Name, file: &[u8], vf: Vf)
-        requires { (length self.old.fonts.items < 8) × (length self.old.bytes.items + length file.now ≤ 32768) }
-        ensures is { entries_of self.new.bytes.items self.new.fonts.items ≡ entries_of self.old.bytes.items self.old.fonts.items ++ record { name = spelled name; file = file.now; font = font_of vf } ∷ [] }
+        requires few { length self.old.fonts.items < 8 }
+        requires short { length self.old.bytes.items + length file.now ≤ 32768 }
+        requires room { length (rank_of (S.means self.old.below) (files_of self.old)).names < 4096 }
+        requires fresh { found_in (rank_of (S.means self.old.below) (files_of self.old)).names (spelled name) ≡ None }
+        ensures is { files_of self.new ≡ files_of self.old ++ record { name = spelled name; file = file.now; font = font_of vf } ∷ [] }
         ensures below { self.new.below ≡ self.old.below }
     {
         let start = self.bytes.len();
@@ -80,9 +81,8 @@ impl<S: Shelf> Rank<S> {
 
     // Adds a file under a name, or refuses it and leaves the rank as it was.
     pub fn add(&mut self, name: &[u8], file: &[u8]) -> Result<(), Refusal>
-        ensures is { (entries_of self.new.bytes.items self.new.fonts.items, result) ≡ added (S.means self.old.below) (entries_of self.old.bytes.items self.old.fonts.items) name.now file.now }
+        ensures is { (files_of self.new, result) ≡ added (S.means self.old.below) (files_of self.old) name.now file.now }
         ensures below { self.new.below ≡ self.old.below }
-        ensures sound { RankOk (S.means self.old.below) (entries_of self.old.bytes.items self.old.fonts.items) → RankOk (S.means self.new.below) (entries_of self.new.bytes.items self.new.fonts.items) }
         ensures same { OnErr result (self.new ≡ self.old) }
     {
         if no_room(
@@ -93,15 +93,9 @@ impl<S: Shelf> Rank<S> {
         ) {
             return Err(Refusal::ShelfFull);
         }
-        let Some(kept) = self.new_name(name) else {
-            return Err(Refusal::VfName);
-        };
-        match read_vf(&self.below, file) {
-            Ok(vf) => {
-                self.keep(kept, file, vf);
-                Ok(())
-            }
-            Err(e) => Err(e),
-        }
+        let kept = self.new_name(name).ok_or(Refusal::VfName)?;
+        let vf = read_vf(&self.below, file)?;
+        self.keep(kept, file, vf);
+        Ok(())
     }
 }

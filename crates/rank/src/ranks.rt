@@ -1,6 +1,8 @@
 // A rank: VF files over a shelf.
 ghost use Rattle.std.specs.Prelude.{◌≡◌, ◌≤◌, true, length, vec_capacity};
+ghost use Rattle.rank.specs.Entries.{entries_of};
 ghost use Rattle.rank.specs.Laid.{total, inside};
+ghost use Rattle.rank.specs.Ranks.{RankOk};
 
 use crate::fonts::Font;
 use shelf::Shelf;
@@ -15,4 +17,6 @@ pub struct Rank<S: Shelf> {
     ghost eight: { 8 ≤ vec_capacity fonts },
     ghost whole: { total fonts.items ≡ length bytes.items },
     ghost laid: { inside (length bytes.items) fonts.items ≡ true },
+    // All files find room, and no name is twice.
+    ghost ok: { RankOk (S.means below) (entries_of bytes.items fonts.items) },
 }

@@ -9,11 +9,10 @@ ghost use Rattle.rank.specs.Lawfuls.{rank_lawful, good-font-names};
 ghost use Rattle.rank.specs.Named.{fitting-few, fitting-names, fitting-all};
 
 use crate::fonts::Font;
-use crate::naming::font_named;
 use crate::ranks::Rank;
-use expansion::{Asked, expand};
-use numbers::part;
-use shelf::{Count, Face, Link, Mark, Refusal, Shelf, start};
+use expansion::expand;
+use numbers::{first_match, part};
+use shelf::{Asked, Count, Face, Link, Mark, Refusal, Shelf};
 
 impl<S: Shelf> Rank<S> {
     // The fonts that find room above those below: all, in a rank that was made by its calls.
@@ -21,21 +20,13 @@ impl<S: Shelf> Rank<S> {
         ensures fonts { result.now ≡ take (4096 - length (S.means self.now.below).names) self.now.fonts.items }
         ensures few { length (S.means self.now.below).names + length result.now ≤ 4096 }
     {
-        let room = 4096 - self.below.count().fonts as usize;
-        part_of(self.fonts.as_slice(), room)
+        let room = 4096 - usize::from(self.below.count().fonts);
+        part(self.fonts.as_slice(), 0, room)
     }
-}
-
-fn part_of(fonts: &[Font], n: usize) -> &[Font]
-    ensures { result.now ≡ take n fonts.now }
-{
-    if n < fonts.len() { &fonts[0..n] } else { fonts }
 }
 
 impl<S: Shelf> Shelf for Rank<S> {
     ghost means = { λ s. rank_of (S.Shelf.means s.below) (entries_of s.bytes.items s.fonts.items) };
-
-    ghost sound = { λ s. S.Shelf.sound s.below × RankOk (S.Shelf.means s.below) (entries_of s.bytes.items s.fonts.items) };
 
     ghost lawful = { λ s.
         let m = S.Shelf.means s.below in
@@ -44,9 +35,9 @@ impl<S: Shelf> Shelf for Rank<S> {
         let fs = s.fonts.items in
         rank_lawful m (fitting m (entries_of bs fs)) law (subst (AllByRecursion GoodName) (sym (fitting-names m bs fs)) (good-font-names (take (4096 - length m.names) fs))) (fitting-few (length m.names) (entries_of bs fs) law.few) };
 
-    ghost distinct = { λ s u.
+    ghost distinct = { λ s.
         let m = S.Shelf.means s.below in
-        subst (λ es. Distinct (m.names ++ map entry_name es)) (sym (fitting-all m (entries_of s.bytes.items s.fonts.items) u.1.few)) u.1.unlike };
+        subst (λ es. Distinct (m.names ++ map entry_name es)) (sym (fitting-all m (entries_of s.bytes.items s.fonts.items) s.ok.few)) s.ok.unlike };
 
     fn count(&self) -> Count {
         let below = self.below.count();
@@ -61,10 +52,8 @@ impl<S: Shelf> Shelf for Rank<S> {
             return Some(k);
         }
         let base = self.below.count().fonts;
-        match font_named(self.own(), name) {
-            Some(k) => Some(base + k as u16),
-            None => None,
-        }
+        let k = first_match(self.own(), name)?;
+        Some(base + k as u16)
     }
 
     fn face(&self, k: u16) -> Option<Face<'_>> {
@@ -73,37 +62,19 @@ impl<S: Shelf> Shelf for Rank<S> {
 
     fn character(
         &self,
-        font: u16,
-        size: u32,
-        code: u8,
-        h: i64,
-        v: i64,
+        asked: Asked,
         chain: &mut [Link],
         marks: &mut [Mark],
     ) -> Result<(usize, i64), Refusal> {
         let base = self.below.count().fonts;
-        if font < base {
-            return self.below.character(font, size, code, h, v, chain, marks);
+        if asked.font < base {
+            return self.below.character(asked, chain, marks);
         }
         let fonts = self.own();
-        if let Err(cause) = start(base + fonts.len() as u16, font, size, h, v) {
-            return Err(Refusal::Fault { cause, links: 0 });
-        }
-        let f = &fonts[(font - base) as usize];
+        asked.start(base + fonts.len() as u16)?;
+        let k = usize::from(asked.font - base);
+        let f = &fonts[k];
         let file = part(self.bytes.as_slice(), f.start, f.length);
-        expand(
-            &self.below,
-            &f.vf,
-            file,
-            Asked {
-                font,
-                size,
-                code,
-                h,
-                v,
-            },
-            chain,
-            marks,
-        )
+        expand(&self.below, &f.vf, file, asked, chain, marks)
     }
 }

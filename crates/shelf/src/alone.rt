@@ -24,12 +24,10 @@ impl<S: Shelf> FacesAlone<S> {
 impl<S: Shelf> Shelf for FacesAlone<S> {
     ghost means = { λ s. faces_alone (S.Shelf.means s.0) };
 
-    // The names of faces are unlike in every shelf.
-    ghost sound = { λ s. Unit {0} };
-
     ghost lawful = { λ s. alone_lawful (S.Shelf.means s.0) (S.Shelf.lawful s.0) };
 
-    ghost distinct = { λ s u. alone_distinct (S.Shelf.means s.0) (S.Shelf.lawful s.0) };
+    // The names of faces are unlike in every shelf.
+    ghost distinct = { λ s. alone_distinct (S.Shelf.means s.0) (S.Shelf.lawful s.0) };
 
     fn count(&self) -> Count {
         let n = self.0.count().faces;

@@ -27,9 +27,6 @@ pub struct Count {
 pub trait Shelf {
     ghost means: { Self → Meaning };
 
-    // What every maker of a shelf ensures and its type cannot hold: no name twice across its layers.
-    ghost sound: { Self → Type 0 };
-
     fn count(&self) -> Count
         ensures fonts { result.fonts ≡ length (means self.now).names }
         ensures faces { result.faces ≡ length (means self.now).faces };
@@ -54,5 +51,6 @@ pub trait Shelf {
 
     ghost lawful: { (s : Self) → Lawful (means s) };
 
-    ghost distinct: { (s : Self) → sound s → Distinct (means s).names };
+    // No name is twice, across all layers of a shelf.
+    ghost distinct: { (s : Self) → Distinct (means s).names };
 }

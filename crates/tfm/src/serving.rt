@@ -15,12 +15,10 @@ use shelf::{Asked, Cause, Count, Face, Link, Mark, Refusal, Shelf, put_mark};
 impl Shelf for TfmShelf {
     ghost means = { λ s. tfm_meaning s.bytes.items (map outline_of s.faces.items) };
 
-    // The names are unlike by the type.
-    ghost sound = { λ s. Unit {0} };
-
     ghost lawful = { λ s. tfm_lawful s.bytes.items s.faces.items s.few s.unlike };
 
-    ghost distinct = { λ s u. apart_distinct (face_names s.faces.items) s.unlike };
+    // The names are unlike by the type.
+    ghost distinct = { λ s. apart_distinct (face_names s.faces.items) s.unlike };
 
     fn count(&self) -> Count {
         let n = self.faces.len() as u16;

@@ -1,5 +1,6 @@
 // The tables of a VF file: at most 16 local fonts, in the order of their definitions, and a packet or none for each code.
-ghost use Rattle.std.specs.Prelude.{◌≡◌, length};
+ghost use Rattle.std.specs.Prelude.{◌≡◌, ◌≤◌, length};
+ghost use Rattle.arrayvec.specs.ArrayVec.{array_vec_len};
 
 use crate::entries::{Local, Packet};
 use arrayvec::ArrayVec;
@@ -11,6 +12,7 @@ const MAX_LOCALS: usize = 16;
 pub struct Vf {
     locals: ArrayVec<Local, MAX_LOCALS>,
     packets: [Option<Packet>; 256],
+    ghost few: { array_vec_len locals ≤ 16 },
     ghost whole: { length packets ≡ 256 },
 }
 

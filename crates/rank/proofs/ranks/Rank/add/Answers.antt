@@ -1,9 +1,9 @@
-use Rattle.std.proofs.Common.{◌<◌, length, vec_items, refl, rules}
+use Rattle.std.proofs.Common.{◌≡◌, Some, None, length, vec_items, sym, ap, ◌∙◌, refl, rules, arith}
+use Rattle.std.specs.Option.{option_map}
+use Rattle.std.proofs.lemmas.Result.{err_from_is_err_and}
+use Rattle.shelf.specs.declared.refusals.Refusal.TheVariants.{VfName}
 use Rattle.shelf.specs.Spelling.{spelled}
-use Rattle.vf.specs.Fonts.{font_of}
-use Rattle.rank.specs.Entries.{entries_of}
-use Rattle.rank.specs.Ranks.{rank_of}
-use Rattle.rank.proofs.Adds.{no_room, no_name, not-read, one_more, rank_pushed}
+use Rattle.rank.proofs.Adds.{no_room, no_name, not-read, one_more}
 use Rattle.rank.proofs.ranks.Rank.add.Goals as goal
 
 pub returns-then-no_room : goal.returns-then-no_room
@@ -11,31 +11,35 @@ returns-then-no_room g c =
     let r = c.args.self.now in
     let m = g.S.Shelf.means r.below in
     let e = no_room m (vec_items r.bytes) (vec_items r.fonts) c.args.name.now c.args.file.now r.laid r.whole _ c.len.result c.len-2.result c.count.result.fonts (length c.args.file.now) (search rules) (search rules) c.count.ensures.fonts refl c.no_room.ensures.is c.if-no_room.true in
-    record { is = e; below = refl; sound = λ u. u; same = refl }
+    record { is = e; below = refl; same = refl }
 
-pub returns-in_default : goal.returns-in_default
-returns-in_default g c =
+pub returns-in_err-kept : goal.returns-in_err-kept
+returns-in_err-kept g c =
+    let p = err_from_is_err_and c.from_residual.result c.from_residual.ensures.1 in
+    let none : c.new_name.result ≡ None = grind arith in
+    let k : c.in_err-kept.field-0.0 ≡ VfName = grind arith in
     let r = c.args.self.now in
     let m = g.S.Shelf.means r.below in
-    let e = no_name m (vec_items r.bytes) (vec_items r.fonts) c.args.name.now c.args.file.now r.laid r.whole _ c.len.result c.len-2.result c.count.result.fonts (length c.args.file.now) (search rules) (search rules) c.count.ensures.fonts refl c.no_room.ensures.is c.if-no_room.false c.in_default.ensures.is in
-    record { is = e; below = refl; sound = λ u. u; same = refl }
+    let e = no_name m (vec_items r.bytes) (vec_items r.fonts) c.args.name.now c.args.file.now r.laid r.whole _ c.len.result c.len-2.result c.count.result.fonts (length c.args.file.now) (search rules) (search rules) c.count.ensures.fonts refl c.no_room.ensures.is c.if-no_room.false (ap (option_map spelled) (sym none) ∙ c.new_name.ensures.is) in
+    rw (p.1, p.2, k) (record { is = e; below = refl; same = refl })
 
-pub returns-in-Err : goal.returns-in-Err
-returns-in-Err g c =
+pub returns-in_err-vf : goal.returns-in_err-vf
+returns-in_err-vf g c =
+    let p = err_from_is_err_and c.from_residual-in_err-vf.result c.from_residual-in_err-vf.ensures.1 in
+    let some : c.new_name.result ≡ Some c.in_ok-kept.kept = grind arith in
     let r = c.args.self.now in
     let m = g.S.Shelf.means r.below in
-    let e = not-read m (vec_items r.bytes) (vec_items r.fonts) c.args.name.now c.args.file.now r.laid r.whole _ c.len.result c.len-2.result c.count.result.fonts (length c.args.file.now) (search rules) (search rules) c.count.ensures.fonts refl c.no_room.ensures.is c.if-no_room.false _ c.in-Some.ensures.is c.in-Err.e c.in-Err.ensures in
-    record { is = e; below = refl; sound = λ u. u; same = refl }
+    let e = not-read m (vec_items r.bytes) (vec_items r.fonts) c.args.name.now c.args.file.now r.laid r.whole _ c.len.result c.len-2.result c.count.result.fonts (length c.args.file.now) (search rules) (search rules) c.count.ensures.fonts refl c.no_room.ensures.is c.if-no_room.false _ (ap (option_map spelled) (sym some) ∙ c.new_name.ensures.is) c.in_err-vf.field-0.0 c.in_err-vf.ensures in
+    rw (p.1, p.2) (record { is = e; below = refl; same = refl })
 
-pub returns-in-Ok-clause-is : goal.returns-in-Ok-clause-is
-returns-in-Ok-clause-is g c =
+pub keep-requires : goal.keep-requires
+keep-requires g c =
+    let some : c.new_name.result ≡ Some c.in_ok-kept.kept = grind arith in
+    record { few = search rules; short = search rules; room = search rules; fresh = rw some at c.new_name.ensures.fresh }
+
+pub returns-clause-is : goal.returns-clause-is
+returns-clause-is g c =
+    let some : c.new_name.result ≡ Some c.in_ok-kept.kept = grind arith in
     let r = c.args.self.now in
     let m = g.S.Shelf.means r.below in
-    one_more m (vec_items r.bytes) (vec_items r.fonts) c.args.name.now c.args.file.now r.laid r.whole _ c.len.result c.len-2.result c.count.result.fonts (length c.args.file.now) (search rules) (search rules) c.count.ensures.fonts refl c.no_room.ensures.is c.if-no_room.false _ c.in-Some.ensures.is _ _ c.in-Ok.ensures (search rules)
-
-pub returns-in-Ok-clause-sound : goal.returns-in-Ok-clause-sound
-returns-in-Ok-clause-sound g c =
-    let r = c.args.self.now in
-    let es = entries_of (vec_items r.bytes) (vec_items r.fonts) in
-    let few : length (rank_of (g.S.Shelf.means r.below) es).names < 4096 = search rules in
-    rank_pushed g.S.Shelf.means r.below _ es _ (record { name = spelled c.in-Some.kept; file = c.args.file.now; font = font_of c.in-Ok.vf }) few c.in-Some.ensures.fresh (search rules) (search rules)
+    one_more m (vec_items r.bytes) (vec_items r.fonts) c.args.name.now c.args.file.now r.laid r.whole _ c.len.result c.len-2.result c.count.result.fonts (length c.args.file.now) (search rules) (search rules) c.count.ensures.fonts refl c.no_room.ensures.is c.if-no_room.false _ (ap (option_map spelled) (sym some) ∙ c.new_name.ensures.is) _ _ c.in_ok-vf.ensures (search rules)
