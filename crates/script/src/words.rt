@@ -1,4 +1,4 @@
-// Cutting a script into lines and words, and reading the numbers and bytes that the words spell.
+// Cutting a line into words, and reading the numbers and bytes that the words spell.
 ghost use Rattle.std.specs.Prelude.{◌≡◌, ◌-◌, ◌<◌, ◌≤◌, Some, None};
 
 use crate::problems::Problem;
@@ -6,72 +6,48 @@ use std::alloc::{AllocError, Global};
 
 // The parts of a text between its separators. They lie in the text: nothing of it is copied.
 pub fn cut<'a>(text: &'a [u8], separator: u8, heap: Global) -> Result<Vec<&'a [u8]>, AllocError> {
-    let mut parts = Vec::new(heap);
-    let mut start = 0;
-    for end in 0..=text.len() {
-        if end == text.len() || text[end] == separator {
-            if let Some(part) = text.get(start..end) {
-                parts.push(part)?;
-            }
-            start = end.saturating_add(1);
-        }
-    }
-    Ok(parts)
+    text.split(|byte| *byte == separator).collect(heap)
 }
 
-// A decimal number with no sign. One that is too large counts as the largest that there is.
-pub fn unsigned(word: &[u8]) -> Result<usize, Problem> {
-    if word.is_empty() {
-        return Err(Problem::NotNumber);
-    }
-    let mut number = 0usize;
-    for letter in word {
-        match *letter {
-            b'0'..=b'9' => number = number
+// A decimal number that a word spells. One that is too large or too small counts as the last that there is.
+pub trait Number: Copy + Default {
+    fn spelled(word: &[u8]) -> Result<Self, Problem>;
+}
+
+// Without a sign.
+impl Number for usize {
+    fn spelled(word: &[u8]) -> Result<usize, Problem> {
+        if word.is_empty() {
+            return Err(Problem::NotNumber);
+        }
+        word.iter().try_fold(0usize, |number, letter| match letter {
+            b'0'..=b'9' => Ok(number
                 .saturating_mul(10)
-                .saturating_add(usize::from(*letter - b'0')),
-            _ => return Err(Problem::NotNumber),
+                .saturating_add(usize::from(*letter - b'0'))),
+            _ => Err(Problem::NotNumber),
+        })
+    }
+}
+
+// With a minus sign, or none.
+impl Number for i64 {
+    fn spelled(word: &[u8]) -> Result<i64, Problem> {
+        match word {
+            [b'-', digits @ ..] =>
+                Ok(i64::try_from(usize::spelled(digits)?).map_or(i64::MIN, |number| -number)),
+            digits => Ok(i64::try_from(usize::spelled(digits)?).unwrap_or(i64::MAX)),
         }
     }
-    Ok(number)
 }
 
-// A decimal number that may have a sign. One that is too large or too small counts as the last that there is.
-pub fn signed(word: &[u8]) -> Result<i64, Problem> {
-    match word {
-        [b'-', digits @ ..] => match i64::try_from(unsigned(digits)?) {
-            Ok(number) => Ok(number.wrapping_neg()),
-            Err(_) => Ok(i64::MIN),
-        },
-        digits => Ok(i64::try_from(unsigned(digits)?).unwrap_or(i64::MAX)),
-    }
-}
-
-// The numbers of a line that has so many of them and nothing else.
-pub fn all_unsigned<const N: usize>(words: &[&[u8]]) -> Result<[usize; N], Problem> {
+// The numbers of words that are so many and nothing else.
+pub fn all<T: Number, const N: usize>(words: &[&[u8]]) -> Result<[T; N], Problem> {
     if words.len() != N {
         return Err(Problem::WrongCount);
     }
-    let mut numbers = [0; N];
-    for i in 0..N {
-        match unsigned(words[i]) {
-            Ok(number) => numbers[i] = number,
-            Err(problem) => return Err(problem),
-        }
-    }
-    Ok(numbers)
-}
-
-pub fn all_signed<const N: usize>(words: &[&[u8]]) -> Result<[i64; N], Problem> {
-    if words.len() != N {
-        return Err(Problem::WrongCount);
-    }
-    let mut numbers = [0; N];
-    for i in 0..N {
-        match signed(words[i]) {
-            Ok(number) => numbers[i] = number,
-            Err(problem) => return Err(problem),
-        }
+    let mut numbers = [T::default(); N];
+    for (number, word) in numbers.iter_mut().zip(words) {
+        *number = T::spelled(word)?;
     }
     Ok(numbers)
 }
@@ -88,17 +64,13 @@ pub fn font(number: i64) -> u16 {
 
 // The bytes that a word spells by two digits each, or `-` for none.
 pub fn bytes(word: &[u8], heap: Global) -> Result<Vec<u8>, Problem> {
-    if word == b"-".as_slice() {
-        return Ok(Vec::new(heap));
+    match word {
+        b"-" => Ok(Vec::new(heap)),
+        digits => digits
+            .chunks(2)
+            .map(|pair| byte_of(pair).ok_or(Problem::NotBytes))
+            .try_collect(heap),
     }
-    let mut spelled = Vec::with_capacity(heap, word.len() / 2)?;
-    for pair in word.chunks(2) {
-        match byte_of(pair) {
-            Some(byte) => spelled.push(byte)?,
-            None => return Err(Problem::NotBytes),
-        }
-    }
-    Ok(spelled)
 }
 
 // The four bytes of a fix_word as one number.
@@ -106,24 +78,16 @@ pub fn fix_word(word: &[u8]) -> Result<u32, Problem> {
     if word.len() != 8 {
         return Err(Problem::NotBytes);
     }
-    let mut number = 0;
-    for letter in word {
-        match digit_of(*letter) {
-            Some(digit) => number = number << 4 | u32::from(digit),
-            None => return Err(Problem::NotBytes),
-        }
-    }
-    Ok(number)
+    word.iter()
+        .try_fold(0u32, |number, letter| Some(number << 4 | u32::from(digit_of(*letter)?)))
+        .ok_or(Problem::NotBytes)
 }
 
 fn byte_of(pair: &[u8]) -> Option<u8> {
     let [high, low] = pair else {
         return None;
     };
-    match (digit_of(*high), digit_of(*low)) {
-        (Some(high), Some(low)) => Some(high * 16 + low),
-        _ => None,
-    }
+    Some(digit_of(*high)? * 16 + digit_of(*low)?)
 }
 
 fn digit_of(letter: u8) -> Option<u8>
