@@ -14,11 +14,10 @@ pub struct Output {
 
 impl Output {
     pub fn new(rt: &HostRuntime) -> Output {
-        let to = match BufWriter::new(rt.alloc(), rt.stdout()) {
-            Ok(to) => to,
-            Err(_) => unbuffered(rt),
-        };
-        Output { to, state: Ok(()) }
+        Output {
+            to: BufWriter::new(rt.alloc(), rt.stdout()).unwrap_or_else(|_| unbuffered(rt)),
+            state: Ok(()),
+        }
     }
 
     // What `write!` and `writeln!` call.
@@ -41,20 +40,12 @@ impl Output {
 
     // Writes what the buffer still holds, and tells whether all was written.
     pub fn finish(mut self) -> Result<(), Failure> {
-        if self.state.is_ok() {
-            self.state = self.to.flush();
-        }
-        match self.state {
-            Ok(()) => Ok(()),
-            Err(error) => Err(Failure::Output(error)),
-        }
+        self.state?;
+        Ok(self.to.flush()?)
     }
 }
 
 // A writer that hands on each piece at once, and takes no memory.
 fn unbuffered(rt: &HostRuntime) -> BufWriter<Stdout> {
-    match BufWriter::with_capacity(rt.alloc(), 0, rt.stdout()) {
-        Ok(to) => to,
-        Err(_) => unreachable!(),
-    }
+    BufWriter::with_capacity(rt.alloc(), 0, rt.stdout()).unwrap()
 }
