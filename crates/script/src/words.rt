@@ -1,5 +1,8 @@
 // Cutting a line into words, and reading the numbers and bytes that the words spell.
-ghost use Rattle.std.specs.Prelude.{◌≡◌, ◌-◌, ◌<◌, ◌≤◌, Some, None};
+ghost use Rattle.std.specs.Prelude.{◌≡◌, ℕ, ◌-◌, ◌<◌, ◌≤◌, List, Option, Some, None};
+ghost use Rattle.std.specs.Option.{ok_or};
+ghost use Rattle.script.specs.Spelling.{signed, spells_number, unsigned};
+ghost use Rattle.script.specs.declared.problems.Problem.TheVariants.{NotNumber};
 
 use crate::problems::Problem;
 use std::alloc::{AllocError, Global};
@@ -11,26 +14,36 @@ pub fn cut<'a>(text: &'a [u8], separator: u8, heap: Global) -> Result<Vec<&'a [u
 
 // A decimal number that a word spells. One that is too large or too small counts as the last that there is.
 pub trait Number: Copy + Default {
-    fn spelled(word: &[u8]) -> Result<Self, Problem>;
+    // What a word spells, where it is a number.
+    ghost spelling: { List ℕ → Option Self };
+
+    fn spelled(word: &[u8]) -> Result<Self, Problem>
+        ensures { result ≡ ok_or (spelling word.now) NotNumber };
 }
 
 // Without a sign.
 impl Number for usize {
+    ghost spelling = { unsigned };
+
     fn spelled(word: &[u8]) -> Result<usize, Problem> {
-        if word.is_empty() {
-            return Err(Problem::NotNumber);
-        }
-        word.iter().try_fold(0usize, |number, letter| match letter {
-            b'0'..=b'9' => Ok(number
-                .saturating_mul(10)
-                .saturating_add(usize::from(*letter - b'0'))),
+        match std::str::from_utf8(word) {
+            Ok(digits) if is_number(word) => Ok(digits.parse().unwrap_or(usize::MAX)),
             _ => Err(Problem::NotNumber),
-        })
+        }
     }
+}
+
+// Digits alone, since `parse` takes a plus sign too.
+fn is_number(word: &[u8]) -> bool
+    ensures { result ≡ spells_number word.now }
+{
+    !word.is_empty() && word.iter().all(u8::is_ascii_digit)
 }
 
 // With a minus sign, or none.
 impl Number for i64 {
+    ghost spelling = { signed };
+
     fn spelled(word: &[u8]) -> Result<i64, Problem> {
         match word {
             [b'-', digits @ ..] =>
@@ -79,7 +92,10 @@ pub fn fix_word(word: &[u8]) -> Result<u32, Problem> {
         return Err(Problem::NotBytes);
     }
     word.iter()
-        .try_fold(0u32, |number, letter| Some(number << 4 | u32::from(digit_of(*letter)?)))
+        .try_fold(
+            0u32,
+            |number, letter| Some(number << 4 | u32::from(digit_of(*letter)?)),
+        )
         .ok_or(Problem::NotBytes)
 }
 
