@@ -1,5 +1,5 @@
 // `faces`: shows what a shelf of TFM files holds.
-ghost use Rattle.std.specs.Prelude.{◌<◌, ◌≤◌};
+ghost use Rattle.std.specs.Prelude.{◌≡◌, ◌<◌, ◌≤◌};
 
 use crate::fonts;
 use crate::points::Points;
@@ -11,16 +11,12 @@ pub fn show_faces(rt: &HostRuntime, words: &[String]) -> Result<(), Failure> {
     let heap = rt.alloc();
     let options = Options::parse("faces", words, heap)?;
     if options.fonts.is_empty() {
-        return Err(Failure::Told(
-            format!(in heap; "faces: give at least one --tfm NAME=FILE")?,
-        ));
+        return Err(Failure::Told(format!(in heap; "faces: give at least one --tfm NAME=FILE")?));
     }
     let sample = match (options.size, &options.text) {
         (Some(size), Some(text)) => Some((size, text.as_bytes())),
         (None, None) => None,
-        _ => return Err(Failure::Told(
-            format!(in heap; "faces: --size and --text go together")?,
-        )),
+        _ => return Err(Failure::Told(format!(in heap; "faces: --size and --text go together")?)),
     };
     let shelf = fonts::shelf_of(rt, options.fonts.as_slice())?;
     let mut out = Output::new(rt);
@@ -97,7 +93,9 @@ impl FaceOn<'_> {
 
 // A byte as it is printed: itself where it is a visible ASCII letter, else a blank.
 fn shown(code: u8) -> char
-    ensures { (32 ≤ result) × (result < 127) }
+    ensures visible { 33 ≤ code → code ≤ 126 → result ≡ code }
+    ensures low { code < 33 → result ≡ 32 }
+    ensures high { 126 < code → result ≡ 32 }
 {
     match code {
         b'!'..=b'~' => char::from(code),

@@ -76,7 +76,9 @@ fn refused(refusal: Refusal, fonts: &[Font], heap: Global) -> Result<Failure, Fa
 
 fn file_of(refusal: Refusal, fonts: &[Font]) -> Option<&str> {
     match refusal {
-        Refusal::BrokenTfm { entry } | Refusal::TfmName { entry } => Some(fonts.get(entry)?.file.as_str()),
+        Refusal::BrokenTfm { entry } | Refusal::TfmName { entry } => Some(
+            fonts.get(entry)?.file.as_str(),
+        ),
         _ => None,
     }
 }

@@ -53,8 +53,7 @@ impl<'a> State<'a> {
     fn obey(&mut self, line: &[u8]) -> Result<(), Stop> {
         let words = script::cut(line, b' ', self.rt.alloc())?;
         match words.as_slice() {
-            [b"bytes" | b"fill" | b"file", ..] =>
-                self.store.define(self.rt, words.as_slice())?,
+            [b"bytes" | b"fill" | b"file", ..] => self.store.define(self.rt, words.as_slice())?,
             call => {
                 self.answer(call)?;
                 writeln!(self.out, ".");
@@ -71,8 +70,9 @@ impl<'a> State<'a> {
             [b"add", name, id] => self.add_file(name, id),
             [b"alone"] => self.take_faces(),
             [b"count" | b"find" | b"face" | b"character", ..] => self.ask(call),
-            [b"scale" | b"tfm" | b"rank" | b"add" | b"alone", ..] =>
-                Err(Problem::WrongCount.into()),
+            [b"scale" | b"tfm" | b"rank" | b"add" | b"alone", ..] => Err(
+                Problem::WrongCount.into(),
+            ),
             _ => Err(Problem::NoSuchLine.into()),
         }
     }

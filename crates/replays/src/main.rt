@@ -1,4 +1,4 @@
-// The program: what it does is all in the library `cli`.
+// The program `dviflat` once more, since the gate runs a program once, with the same words each time: here over a script.
 #![tactic(auto)]
 
 use std::process::ExitCode;

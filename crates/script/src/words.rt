@@ -1,8 +1,8 @@
 // Cutting a line into words, and reading the numbers and bytes that the words spell.
-ghost use Rattle.std.specs.Prelude.{◌≡◌, ℕ, ◌-◌, ◌<◌, ◌≤◌, List, Option, Some, None};
+ghost use Rattle.std.specs.Prelude.{◌≡◌, ◌≢◌, ℕ, ◌-◌, ◌^◌, ◌<◌, ◌≤◌, pos, negsuc, List, length, slice_index_or, Option, Some, None, Err, IfOk};
 ghost use Rattle.std.specs.Option.{ok_or};
 ghost use Rattle.script.specs.Spelling.{signed, spells_number, unsigned};
-ghost use Rattle.script.specs.declared.problems.Problem.TheVariants.{NotNumber};
+ghost use Rattle.script.specs.declared.problems.Problem.TheVariants.{NotNumber, WrongCount};
 
 use crate::problems::Problem;
 use std::alloc::{AllocError, Global};
@@ -46,32 +46,45 @@ impl Number for i64 {
 
     fn spelled(word: &[u8]) -> Result<i64, Problem> {
         match word {
-            [b'-', digits @ ..] =>
-                Ok(i64::try_from(usize::spelled(digits)?).map_or(i64::MIN, |number| -number)),
+            [b'-', digits @ ..] => {
+                let number = usize::spelled(digits)?;
+                Ok(i64::try_from(number).map_or(i64::MIN, |number| -number))
+            }
             digits => Ok(i64::try_from(usize::spelled(digits)?).unwrap_or(i64::MAX)),
         }
     }
 }
 
 // The numbers of words that are so many and nothing else.
-pub fn all<T: Number, const N: usize>(words: &[&[u8]]) -> Result<[T; N], Problem> {
+pub fn all<T: Number, const N: usize>(words: &[&[u8]]) -> Result<[T; N], Problem>
+    ensures count { length words.now ≢ N → result ≡ Err WrongCount }
+    ensures spelled { IfOk result (λ numbers. (k : ℕ) (w : _) (d : T) → k < N → T.spelling (slice_index_or words.now k w).now ≡ Some (slice_index_or numbers k d)) }
+{
     if words.len() != N {
         return Err(Problem::WrongCount);
     }
     let mut numbers = [T::default(); N];
-    for (number, word) in numbers.iter_mut().zip(words) {
-        *number = T::spelled(word)?;
+    for (i, word) in words.iter().enumerate() {
+        numbers[i] = T::spelled(word)?;
     }
     Ok(numbers)
 }
 
 // A size in DVI units. A number that no call can be given counts as the nearest that can; the library refuses both.
-pub fn size(number: i64) -> u32 {
+pub fn size(number: i64) -> u32
+    ensures within { (n : ℕ) → n < 2 ^ 32 → number ≡ pos n → result ≡ n }
+    ensures above { (n : ℕ) → 2 ^ 32 ≤ n → number ≡ pos n → result ≡ 2 ^ 32 - 1 }
+    ensures below { (n : ℕ) → number ≡ negsuc n → result ≡ 0 }
+{
     u32::try_from(number.max(0)).unwrap_or(u32::MAX)
 }
 
 // A font. A number that no call can be given counts as the last, which no shelf has.
-pub fn font(number: i64) -> u16 {
+pub fn font(number: i64) -> u16
+    ensures within { (n : ℕ) → n < 2 ^ 16 → number ≡ pos n → result ≡ n }
+    ensures above { (n : ℕ) → 2 ^ 16 ≤ n → number ≡ pos n → result ≡ 2 ^ 16 - 1 }
+    ensures below { (n : ℕ) → number ≡ negsuc n → result ≡ 2 ^ 16 - 1 }
+{
     u16::try_from(number).unwrap_or(u16::MAX)
 }
 

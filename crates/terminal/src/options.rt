@@ -37,9 +37,9 @@ impl Options {
         };
         for pair in words.chunks(2) {
             let [option, value] = pair else {
-                return Err(Failure::Told(
-                    format!(in heap; "{command}: each option takes a value")?,
-                ));
+                return Err(Failure::Told(format!(in heap;
+                    "{command}: each option takes a value"
+                )?));
             };
             options.take(option.as_str(), value.as_str(), heap)?;
         }
@@ -56,9 +56,9 @@ impl Options {
                 )?))
             })?),
             "--text" => self.text = Some(String::from_str(heap, value)?),
-            _ => return Err(Failure::Told(
-                format!(in heap; "{command}: no such option: {option}")?,
-            )),
+            _ => return Err(Failure::Told(format!(in heap;
+                "{command}: no such option: {option}"
+            )?)),
         }
         Ok(())
     }
@@ -66,9 +66,9 @@ impl Options {
 
 fn font_of(value: &str, command: &str, heap: Global) -> Result<Font, Failure> {
     let Some((name, file)) = value.split_once('=') else {
-        return Err(Failure::Told(
-            format!(in heap; "{command}: --tfm takes NAME=FILE, not {value}")?,
-        ));
+        return Err(Failure::Told(format!(in heap;
+            "{command}: --tfm takes NAME=FILE, not {value}"
+        )?));
     };
     Ok(Font {
         name: String::from_str(heap, name)?,
