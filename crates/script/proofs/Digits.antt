@@ -1,5 +1,5 @@
 -- Words of digits: they are text, and `parse` reads them.
-use Rattle.std.proofs.Common.{rules, ℕ, List, [], ◌∷◌, ◌≡◌, ◌<◌, ◌^◌, Bool, true, false, Option, Some, None, Ok, Err, Result, refl, length}
+use Rattle.std.proofs.Common.{rules, ℕ, List, ◌≡◌, ◌<◌, ◌^◌, Bool, true, false, Some, None, Ok, Err, Result, refl, length}
 use Rattle.std.specs.Char.{is_ascii_digit}
 use Rattle.std.specs.List.{list_all}
 use Rattle.std.specs.Result.{OkIff, result_unwrap_or}
