@@ -5,12 +5,18 @@ use shelf::{Cause, Refusal, Shelf, start};
 use std::alloc::{AllocError, Global};
 use terminal::Output;
 
+// Every shelf answers the same calls: they are a value, so that only `Current::ask` goes through the kinds of shelves.
 #[derive(Drop)]
 pub enum Query {
     Count,
     Find(Vec<u8>),
     Face(u16),
-    Character(Asked, usize, usize),
+    // With so many entries in the mark list and the chain list.
+    Character {
+        asked: Asked,
+        marks: usize,
+        chain: usize,
+    },
 }
 
 impl Query {
@@ -19,11 +25,11 @@ impl Query {
             [b"count"] => Ok(Query::Count),
             [b"find", name] => Ok(Query::Find(script::bytes(name, heap)?)),
             [b"face", k] => Ok(Query::Face(script::font(i64::spelled(k)?))),
-            [b"character", point @ .., marks, chain] => Ok(Query::Character(
-                Asked::parse(point)?,
-                usize::spelled(marks)?,
-                usize::spelled(chain)?,
-            )),
+            [b"character", point @ .., marks, chain] => Ok(Query::Character {
+                asked: Asked::parse(point)?,
+                marks: usize::spelled(marks)?,
+                chain: usize::spelled(chain)?,
+            }),
             _ => Err(Problem::WrongCount),
         }
     }
@@ -44,7 +50,11 @@ impl Query {
                 Some(face) => writeln!(out, "ok {}", Told(face)),
                 None => writeln!(out, "ok none"),
             },
-            Query::Character(asked, marks, chain) => {
+            Query::Character {
+                asked,
+                marks,
+                chain,
+            } => {
                 let mut lists = Lists::fresh(*marks, *chain, heap)?;
                 match asked.put_to(shelf, &mut lists) {
                     Ok((count, width)) => writeln!(out, "ok {count} {width}"),
