@@ -5,6 +5,6 @@ mod lines;
 mod lists;
 mod meanings;
 
-pub use lines::{count, end, error, face, none, ok, refusal, scaled};
+pub use lines::Told;
 pub use lists::Lists;
 pub use meanings::meaning;

@@ -1,7 +1,7 @@
 // The lists that a call fills, and how what it wrote is told.
-ghost use Rattle.std.specs.Prelude.{◌≤◌, length};
+ghost use Rattle.std.specs.Prelude.{◌≡◌, ◌++◌};
 
-use crate::lines;
+use crate::lines::Told;
 use shelf::{Link, Mark};
 use std::alloc::{AllocError, Global};
 use terminal::Output;
@@ -39,10 +39,10 @@ impl Lists {
         let (marks, other_marks) = front(self.marks.as_slice(), &MARK_FILLER);
         let (chain, other_links) = front(self.chain.as_slice(), &LINK_FILLER);
         for mark in marks {
-            lines::mark(mark, out);
+            writeln!(out, "{}", Told(*mark));
         }
         for link in chain {
-            lines::link(link, out);
+            writeln!(out, "{}", Told(*link));
         }
         if has_stray(other_marks, &MARK_FILLER) || has_stray(other_links, &LINK_FILLER) {
             writeln!(out, "stray");
@@ -52,21 +52,12 @@ impl Lists {
 
 // The entries before the first that is still the filler, and the others.
 fn front<'a, T: PartialEq>(list: &'a [T], filler: &T) -> (&'a [T], &'a [T])
-    ensures { length result.0.now ≤ length list.now }
+    ensures { list.now ≡ result.0.now ++ result.1.now }
 {
-    for i in 0..list.len() {
-        if list[i] == *filler {
-            return (&list[0..i], &list[i..]);
-        }
-    }
-    (list, &[])
+    let end = list.iter().position(|entry| entry == filler);
+    list.split_at(end.unwrap_or(list.len()))
 }
 
 fn has_stray<T: PartialEq>(list: &[T], filler: &T) -> bool {
-    for entry in list {
-        if entry != filler {
-            return true;
-        }
-    }
-    false
+    list.iter().any(|entry| entry != filler)
 }

@@ -1,57 +1,41 @@
 // Chooses the command that the arguments ask for. The program's `main` calls `run` alone.
 #![tactic(auto)]
 
-mod command_words;
 mod usage;
 
-use anyhow::anyhow;
-use command_words::{Command, command_of};
-use std::{env, io};
+use std::env;
+use std::process::ExitCode;
 use terminal::Failure;
 use usage::USAGE;
 
-// Does what the arguments ask. A failure is told on standard error, and then handed on, so that the program ends with
-// status 1.
-pub fn run(rt: &HostRuntime) -> anyhow::Result<()> {
-    match obey(rt) {
-        Ok(()) => Ok(()),
-        Err(failure) => {
-            tell(rt, &failure)?;
-            Err(anyhow!("dviflat failed"))
-        }
+// Does what the arguments ask, and answers with the status that the program ends with. A failure is told on standard error.
+pub fn run(rt: &HostRuntime) -> ExitCode {
+    obey(rt).unwrap_or_else(|failure| {
+        let _ = eprintln!(rt; "dviflat: {failure}");
+        ExitCode::FAILURE
+    })
+}
+
+fn obey(rt: &HostRuntime) -> Result<ExitCode, Failure> {
+    let words: Vec<String> = env::args(rt)?.skip(1).collect(rt.alloc())?;
+    match words.as_slice() {
+        [first, rest @ ..] => choose(rt, first.as_str(), rest),
+        [] => Ok(misused(rt)),
     }
 }
 
-fn obey(rt: &HostRuntime) -> Result<(), Failure> {
-    let all = arguments(rt)?;
-    match all.as_slice() {
-        [word, rest @ ..] => choose(rt, word.as_str(), rest),
-        [] => Err(Failure::Misused),
+fn choose(rt: &HostRuntime, command: &str, words: &[String]) -> Result<ExitCode, Failure> {
+    match command {
+        "faces" => inspect::show_faces(rt, words)?,
+        "replay" => replay::run_script(rt, words)?,
+        "help" | "--help" => rt.print(USAGE)?,
+        _ => return Ok(misused(rt)),
     }
+    Ok(ExitCode::SUCCESS)
 }
 
-fn choose(rt: &HostRuntime, word: &str, rest: &[String]) -> Result<(), Failure> {
-    match command_of(word) {
-        Some(Command::Faces) => inspect::show_faces(rt, rest),
-        Some(Command::Replay) => replay::run_script(rt, rest),
-        Some(Command::Help) => Ok(rt.print(USAGE)?),
-        None => Err(Failure::Misused),
-    }
-}
-
-fn arguments(rt: &HostRuntime) -> Result<Vec<String>, Failure> {
-    let mut all = Vec::new(rt.alloc());
-    for word in env::args(rt)?.skip(1) {
-        all.push(word)?;
-    }
-    Ok(all)
-}
-
-fn tell(rt: &HostRuntime, failure: &Failure) -> io::Result<()> {
-    match failure {
-        Failure::Told(text) => eprintln!(rt; "dviflat: {text}"),
-        Failure::Misused => eprint!(rt; "{USAGE}"),
-        Failure::Output(error) => eprintln!(rt; "dviflat: {error}"),
-        Failure::NoMemory => eprintln!(rt; "dviflat: no memory"),
-    }
+// No command, or an unknown one: the user is shown how the program is called.
+fn misused(rt: &HostRuntime) -> ExitCode {
+    let _ = eprint!(rt; "{USAGE}");
+    ExitCode::FAILURE
 }

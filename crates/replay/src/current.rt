@@ -1,16 +1,17 @@
 // The shelf that the calls of a script are made on.
-use crate::calls;
+use crate::queries::Query;
+use crate::stops::Stop;
 use rank::Rank;
-use script::{Problem, Query};
-use shelf::{FacesAlone, Refusal};
-use std::alloc::Global;
+use script::Problem;
+use shelf::FacesAlone;
+use std::alloc::{AllocError, Global};
 use terminal::Output;
 use tfm::TfmShelf;
 
-// Each way in which shelves are put together is a case, since each is a type of its own.
+// Each way in which shelves are put together is a case, since each is a type of its own. A `Box<dyn Shelf>` in their
+// place would be made here and handed out, which the gate refuses.
 #[derive(Drop)]
 pub enum Current {
-    Missing,
     Tfm(TfmShelf),
     Rank1(Rank<TfmShelf>),
     Rank2(Rank<Rank<TfmShelf>>),
@@ -24,25 +25,18 @@ pub enum Current {
 }
 
 impl Current {
-    pub fn ask(
-        &self,
-        query: Query,
-        words: &[&[u8]],
-        heap: Global,
-        out: &mut Output,
-    ) -> Result<(), Problem> {
+    pub fn ask(&self, query: &Query, heap: Global, out: &mut Output) -> Result<(), AllocError> {
         match self {
-            Current::Missing => Err(Problem::NoShelf),
-            Current::Tfm(shelf) => calls::ask(shelf, query, words, heap, out),
-            Current::Rank1(shelf) => calls::ask(shelf, query, words, heap, out),
-            Current::Rank2(shelf) => calls::ask(shelf, query, words, heap, out),
-            Current::Rank3(shelf) => calls::ask(shelf, query, words, heap, out),
-            Current::Rank4(shelf) => calls::ask(shelf, query, words, heap, out),
-            Current::TfmAlone(shelf) => calls::ask(shelf, query, words, heap, out),
-            Current::Alone1(shelf) => calls::ask(shelf, query, words, heap, out),
-            Current::Alone2(shelf) => calls::ask(shelf, query, words, heap, out),
-            Current::Alone3(shelf) => calls::ask(shelf, query, words, heap, out),
-            Current::Alone4(shelf) => calls::ask(shelf, query, words, heap, out),
+            Current::Tfm(shelf) => query.put_to(shelf, heap, out),
+            Current::Rank1(shelf) => query.put_to(shelf, heap, out),
+            Current::Rank2(shelf) => query.put_to(shelf, heap, out),
+            Current::Rank3(shelf) => query.put_to(shelf, heap, out),
+            Current::Rank4(shelf) => query.put_to(shelf, heap, out),
+            Current::TfmAlone(shelf) => query.put_to(shelf, heap, out),
+            Current::Alone1(shelf) => query.put_to(shelf, heap, out),
+            Current::Alone2(shelf) => query.put_to(shelf, heap, out),
+            Current::Alone3(shelf) => query.put_to(shelf, heap, out),
+            Current::Alone4(shelf) => query.put_to(shelf, heap, out),
         }
     }
 
@@ -61,31 +55,30 @@ impl Current {
     // Whether a rank can be put over this shelf.
     pub fn takes_rank(&self) -> Result<(), Problem> {
         match self {
-            Current::Missing => Err(Problem::NoShelf),
             Current::Tfm(_) | Current::Rank1(_) | Current::Rank2(_) | Current::Rank3(_) => Ok(()),
             _ => Err(Problem::NoRankHere),
         }
     }
 
     // An empty rank over this shelf, where there can be one.
-    pub fn ranked(self, heap: Global) -> Result<Current, Problem> {
-        match self {
-            Current::Tfm(shelf) => Ok(Current::Rank1(Rank::new(shelf, heap)?)),
-            Current::Rank1(shelf) => Ok(Current::Rank2(Rank::new(shelf, heap)?)),
-            Current::Rank2(shelf) => Ok(Current::Rank3(Rank::new(shelf, heap)?)),
-            Current::Rank3(shelf) => Ok(Current::Rank4(Rank::new(shelf, heap)?)),
-            other => Ok(other),
-        }
+    pub fn ranked(self, heap: Global) -> Result<Current, AllocError> {
+        Ok(match self {
+            Current::Tfm(shelf) => Current::Rank1(Rank::new(shelf, heap)?),
+            Current::Rank1(shelf) => Current::Rank2(Rank::new(shelf, heap)?),
+            Current::Rank2(shelf) => Current::Rank3(Rank::new(shelf, heap)?),
+            Current::Rank3(shelf) => Current::Rank4(Rank::new(shelf, heap)?),
+            other => other,
+        })
     }
 
     // A VF file added to the rank on top.
-    pub fn add(&mut self, name: &[u8], file: &[u8]) -> Result<Result<(), Refusal>, Problem> {
-        match self {
-            Current::Rank1(rank) => Ok(rank.add(name, file)),
-            Current::Rank2(rank) => Ok(rank.add(name, file)),
-            Current::Rank3(rank) => Ok(rank.add(name, file)),
-            Current::Rank4(rank) => Ok(rank.add(name, file)),
-            _ => Err(Problem::NoRank),
-        }
+    pub fn add(&mut self, name: &[u8], file: &[u8]) -> Result<(), Stop> {
+        Ok(match self {
+            Current::Rank1(rank) => rank.add(name, file)?,
+            Current::Rank2(rank) => rank.add(name, file)?,
+            Current::Rank3(rank) => rank.add(name, file)?,
+            Current::Rank4(rank) => rank.add(name, file)?,
+            _ => return Err(Problem::NoRank.into()),
+        })
     }
 }

@@ -1,177 +1,140 @@
 // What a script has built so far, and the lines that change it.
-use crate::calls;
 use crate::current::Current;
-use script::{Call, Kind, Problem, Store, kind_of};
-use shelf::Shelf;
-use std::alloc::Global;
+use crate::queries::Query;
+use crate::stops::Stop;
+use answers::Told;
+use script::{Number, Problem, Store};
+use shelf::{Cause, Shelf};
 use terminal::Output;
-use tfm::{Entry, NotMade, TfmShelf};
+use tfm::{Entry, TfmShelf};
 
 #[derive(Drop)]
-pub struct State {
+pub struct State<'a> {
+    rt: &'a HostRuntime,
+    pub out: Output,
     store: Store,
-    shelf: Current,
+    shelf: Option<Current>,
 }
 
-impl State {
-    pub fn new(heap: Global) -> State {
+impl<'a> State<'a> {
+    pub fn new(rt: &'a HostRuntime) -> State<'a> {
         State {
-            store: Store::new(heap),
-            shelf: Current::Missing,
+            rt,
+            out: Output::new(rt),
+            store: Store::new(rt.alloc()),
+            shelf: None,
         }
     }
 
     // Carries out one line and writes its answer.
-    pub fn take(&mut self, rt: &HostRuntime, line: &[u8], out: &mut Output) {
+    pub fn take(&mut self, line: &[u8]) {
         if line.is_empty() || line.starts_with(b"#") {
             return;
         }
         if line.starts_with(b"case ") {
-            self.begin(line, out);
-        } else if let Err(problem) = self.obey(rt, line, out) {
-            answers::error(problem.words(), out);
+            return self.begin(line);
+        }
+        match self.obey(line) {
+            Ok(()) => {}
+            Err(Stop::Senseless(problem)) => writeln!(self.out, "error {problem}\n."),
+            Err(Stop::Refused(refusal)) => writeln!(self.out, "{}\n.", Told(refusal)),
         }
     }
 
     // `case NAME` forgets everything and prints itself.
-    fn begin(&mut self, line: &[u8], out: &mut Output) {
+    fn begin(&mut self, line: &[u8]) {
         self.store.forget();
-        self.shelf = Current::Missing;
-        out.write_bytes(line);
-        out.write_bytes(b"\n");
+        self.shelf = None;
+        self.out.write_bytes(line);
+        writeln!(self.out, "");
     }
 
-    fn obey(&mut self, rt: &HostRuntime, line: &[u8], out: &mut Output) -> Result<(), Problem> {
-        let words = script::cut(line, b' ', rt.alloc())?;
+    // A line that names bytes has no answer. Any other answer ends by a dot.
+    fn obey(&mut self, line: &[u8]) -> Result<(), Stop> {
+        let words = script::cut(line, b' ', self.rt.alloc())?;
         match words.as_slice() {
-            [first, rest @ ..] => self.do_line(rt, first, rest, out),
-            [] => Err(Problem::NoSuchLine),
-        }
-    }
-
-    fn do_line(
-        &mut self,
-        rt: &HostRuntime,
-        first: &[u8],
-        words: &[&[u8]],
-        out: &mut Output,
-    ) -> Result<(), Problem> {
-        match kind_of(first) {
-            Some(Kind::Define(definition)) => self.store.define(rt, definition, words),
-            Some(Kind::Do(call)) => self.answer(call, words, rt.alloc(), out),
-            None => Err(Problem::NoSuchLine),
-        }
-    }
-
-    // Ends what the call answered. A problem has its answer from `take`.
-    fn answer(
-        &mut self,
-        call: Call,
-        words: &[&[u8]],
-        heap: Global,
-        out: &mut Output,
-    ) -> Result<(), Problem> {
-        let done = match call {
-            Call::Scale => calls::scale(words, out),
-            Call::Tfm => self.make_shelf(words, heap, out),
-            Call::Rank => self.put_rank(words, heap, out),
-            Call::Add => self.add_file(words, heap, out),
-            Call::Alone => self.take_faces(words, out),
-            Call::Ask(query) => self.shelf.ask(query, words, heap, out),
-        };
-        if done.is_ok() {
-            answers::end(out);
-        }
-        done
-    }
-
-    // `tfm ID [NP NL FP FL]..` A refusal leaves the shelf as it was.
-    fn make_shelf(
-        &mut self,
-        words: &[&[u8]],
-        heap: Global,
-        out: &mut Output,
-    ) -> Result<(), Problem> {
-        match self.tfm_shelf(words, heap)? {
-            Ok(shelf) => {
-                answers::count(shelf.count(), out);
-                self.shelf = Current::Tfm(shelf);
-                Ok(())
+            [b"bytes" | b"fill" | b"file", ..] => self.store.define(self.rt, words.as_slice())?,
+            call => {
+                self.answer(call)?;
+                writeln!(self.out, ".");
             }
-            Err(NotMade::Refused(refusal)) => {
-                answers::refusal(refusal, out);
-                Ok(())
-            }
-            Err(NotMade::NoMemory) => Err(Problem::NoMemory),
+        }
+        Ok(())
+    }
+
+    fn answer(&mut self, call: &[&[u8]]) -> Result<(), Stop> {
+        match call {
+            [b"scale", word, size] => self.scale(word, size),
+            [b"tfm", name, places @ ..] => self.make_shelf(name, places),
+            [b"rank"] => self.put_rank(),
+            [b"add", name, id] => self.add_file(name, id),
+            [b"alone"] => self.take_faces(),
+            [b"count" | b"find" | b"face" | b"character", ..] => self.ask(call),
+            [b"scale" | b"tfm" | b"rank" | b"add" | b"alone", ..] => Err(
+                Problem::WrongCount.into(),
+            ),
+            _ => Err(Problem::NoSuchLine.into()),
         }
     }
 
-    // What the library answers to the bytes and entries of the line.
-    fn tfm_shelf(
-        &self,
-        words: &[&[u8]],
-        heap: Global,
-    ) -> Result<Result<TfmShelf, NotMade>, Problem> {
-        let [name, places @ ..] = words else {
-            return Err(Problem::WrongCount);
-        };
+    // A fix_word that cannot be scaled has no chain, so its refusal is the number alone.
+    fn scale(&mut self, word: &[u8], size: &[u8]) -> Result<(), Stop> {
+        let word = script::fix_word(word)?;
+        let size = script::size(i64::spelled(size)?);
+        match numbers::scale(word, size) {
+            Some(scaled) => writeln!(self.out, "ok {scaled}"),
+            None => writeln!(self.out, "refused {}", Cause::BadSize.number()),
+        }
+        Ok(())
+    }
+
+    // A refusal leaves the shelf as it was.
+    fn make_shelf(&mut self, name: &[u8], places: &[&[u8]]) -> Result<(), Stop> {
+        let heap = self.rt.alloc();
         let bytes = self.store.find(name)?;
-        let entries = entries_of(places, heap)?;
-        Ok(TfmShelf::new(bytes, entries.as_slice(), heap))
-    }
-
-    // `rank`
-    fn put_rank(&mut self, words: &[&[u8]], heap: Global, out: &mut Output) -> Result<(), Problem> {
-        if !words.is_empty() {
-            return Err(Problem::WrongCount);
-        }
-        self.shelf.takes_rank()?;
-        let shelf = std::mem::replace(&mut self.shelf, Current::Missing);
-        self.shelf = shelf.ranked(heap)?;
-        answers::ok(&[], out);
+        let entries: Vec<Entry> = places.chunks(4).map(entry_of).try_collect(heap)?;
+        let shelf = TfmShelf::new(bytes, entries.as_slice(), heap)?;
+        writeln!(self.out, "ok {}", Told(shelf.count()));
+        self.shelf = Some(Current::Tfm(shelf));
         Ok(())
     }
 
-    // `add NAMEHEX ID`
-    fn add_file(&mut self, words: &[&[u8]], heap: Global, out: &mut Output) -> Result<(), Problem> {
-        let [name, id] = words else {
-            return Err(Problem::WrongCount);
-        };
-        let name = script::bytes(name, heap)?;
+    fn put_rank(&mut self) -> Result<(), Stop> {
+        self.shelf.as_ref().ok_or(Problem::NoShelf)?.takes_rank()?;
+        if let Some(shelf) = self.shelf.take() {
+            self.shelf = Some(shelf.ranked(self.rt.alloc())?);
+        }
+        writeln!(self.out, "ok");
+        Ok(())
+    }
+
+    fn add_file(&mut self, name: &[u8], id: &[u8]) -> Result<(), Stop> {
+        let name = script::bytes(name, self.rt.alloc())?;
         let file = self.store.find(id)?;
-        match self.shelf.add(name.as_slice(), file)? {
-            Ok(()) => answers::ok(&[], out),
-            Err(refusal) => answers::refusal(refusal, out),
-        }
+        let shelf = self.shelf.as_mut().ok_or(Problem::NoRank)?;
+        shelf.add(name.as_slice(), file)?;
+        writeln!(self.out, "ok");
         Ok(())
     }
 
-    // `alone`
-    fn take_faces(&mut self, words: &[&[u8]], out: &mut Output) -> Result<(), Problem> {
-        if !words.is_empty() {
-            return Err(Problem::WrongCount);
-        }
-        match std::mem::replace(&mut self.shelf, Current::Missing) {
-            Current::Missing => Err(Problem::NoShelf),
-            shelf => {
-                self.shelf = shelf.alone();
-                answers::ok(&[], out);
-                Ok(())
-            }
-        }
+    fn take_faces(&mut self) -> Result<(), Stop> {
+        let shelf = self.shelf.take().ok_or(Problem::NoShelf)?;
+        self.shelf = Some(shelf.alone());
+        writeln!(self.out, "ok");
+        Ok(())
     }
-}
 
-fn entries_of(places: &[&[u8]], heap: Global) -> Result<Vec<Entry>, Problem> {
-    let mut entries = Vec::new(heap);
-    for four in places.chunks(4) {
-        entries.push(entry_of(four)?)?;
+    // A call that changes nothing.
+    fn ask(&mut self, call: &[&[u8]]) -> Result<(), Stop> {
+        let heap = self.rt.alloc();
+        let shelf = self.shelf.as_ref().ok_or(Problem::NoShelf)?;
+        let query = Query::parse(call, heap)?;
+        Ok(shelf.ask(&query, heap, &mut self.out)?)
     }
-    Ok(entries)
 }
 
 fn entry_of(four: &[&[u8]]) -> Result<Entry, Problem> {
-    let [name_place, name_length, file_place, file_length] = script::all_unsigned::<4>(four)?;
+    let [name_place, name_length, file_place, file_length] = script::all::<usize, 4>(four)?;
     Ok(Entry {
         name_place,
         name_length,

@@ -1,25 +1,20 @@
 // The byte strings that a script has named, and the lines that name them.
-use crate::kinds::Definition;
 use crate::problems::Problem;
 use crate::words;
+use crate::words::Number;
 use std::alloc::Global;
+use std::collections::HashMap;
 use std::fs;
 
 #[derive(Drop)]
 pub struct Store {
-    named: Vec<Named>,
-}
-
-#[derive(Drop)]
-struct Named {
-    name: Vec<u8>,
-    bytes: Vec<u8>,
+    named: HashMap<Vec<u8>, Vec<u8>>,
 }
 
 impl Store {
     pub fn new(heap: Global) -> Store {
         Store {
-            named: Vec::new(heap),
+            named: HashMap::new(heap),
         }
     }
 
@@ -29,56 +24,32 @@ impl Store {
 
     // The bytes that were last given this name.
     pub fn find(&self, name: &[u8]) -> Result<&[u8], Problem> {
-        let mut found = Err(Problem::NoSuchBytes);
-        for one in self.named.iter() {
-            if one.name.as_slice() == name {
-                found = Ok(one.bytes.as_slice());
-            }
-        }
-        found
+        self.named
+            .get(name)
+            .map(|bytes| bytes.as_slice())
+            .ok_or(Problem::NoSuchBytes)
     }
 
-    // Every definition begins with the name.
-    pub fn define(
-        &mut self,
-        rt: &HostRuntime,
-        definition: Definition,
-        words: &[&[u8]],
-    ) -> Result<(), Problem> {
-        let [name, rest @ ..] = words else {
-            return Err(Problem::WrongCount);
+    // A line that names bytes, by all its words.
+    pub fn define(&mut self, rt: &HostRuntime, line: &[&[u8]]) -> Result<(), Problem> {
+        let heap = rt.alloc();
+        let (name, bytes) = match line {
+            [b"bytes", name, digits] => (name, words::bytes(digits, heap)?),
+            [b"fill", name, byte, count] => (name, filled(byte, count, heap)?),
+            [b"file", name, path] => (name, loaded(rt, path)?),
+            _ => return Err(Problem::WrongCount),
         };
-        let bytes = bytes_of(rt, definition, rest)?;
-        let name = Vec::from_slice(rt.alloc(), name)?;
-        self.named.push(Named { name, bytes })?;
+        self.named.insert(Vec::from_slice(heap, name)?, bytes)?;
         Ok(())
     }
 }
 
-fn bytes_of(rt: &HostRuntime, definition: Definition, words: &[&[u8]]) -> Result<Vec<u8>, Problem> {
-    match (definition, words) {
-        (Definition::Bytes, [word]) => words::bytes(word, rt.alloc()),
-        (Definition::Fill, [byte, count]) => filled(byte, count, rt.alloc()),
-        (Definition::File, [path]) => loaded(rt, path),
-        _ => Err(Problem::WrongCount),
-    }
-}
-
-// `fill ID BYTE COUNT`
 fn filled(byte: &[u8], count: &[u8], heap: Global) -> Result<Vec<u8>, Problem> {
-    let Ok(byte) = u8::try_from(words::unsigned(byte)?) else {
-        return Err(Problem::NotByte);
-    };
-    Ok(vec![in heap; byte; words::unsigned(count)?]?)
+    let byte = u8::try_from(usize::spelled(byte)?).map_err(|_| Problem::NotByte)?;
+    Ok(vec![in heap; byte; usize::spelled(count)?]?)
 }
 
-// `file ID PATH`
 fn loaded(rt: &HostRuntime, path: &[u8]) -> Result<Vec<u8>, Problem> {
-    let Ok(path) = std::str::from_utf8(path) else {
-        return Err(Problem::NotText);
-    };
-    match fs::read(rt, path) {
-        Ok(bytes) => Ok(bytes),
-        Err(_) => Err(Problem::NoSuchFile),
-    }
+    let path = std::str::from_utf8(path).map_err(|_| Problem::NotText)?;
+    fs::read(rt, path).map_err(|_| Problem::NoSuchFile)
 }

@@ -1,104 +1,102 @@
-// Cutting a script into lines and words, and reading the numbers and bytes that the words spell.
-ghost use Rattle.std.specs.Prelude.{◌≡◌, ◌-◌, ◌<◌, ◌≤◌, Some, None};
+// Cutting a line into words, and reading the numbers and bytes that the words spell.
+ghost use Rattle.std.specs.Prelude.{◌≡◌, ◌≢◌, ℕ, ◌-◌, ◌^◌, ◌<◌, ◌≤◌, pos, negsuc, List, length, slice_index_or, Option, Some, None, Err, IfOk};
+ghost use Rattle.std.specs.Option.{ok_or};
+ghost use Rattle.script.specs.Spelling.{signed, spells_number, unsigned};
+ghost use Rattle.script.specs.declared.problems.Problem.TheVariants.{NotNumber, WrongCount};
 
 use crate::problems::Problem;
 use std::alloc::{AllocError, Global};
 
 // The parts of a text between its separators. They lie in the text: nothing of it is copied.
 pub fn cut<'a>(text: &'a [u8], separator: u8, heap: Global) -> Result<Vec<&'a [u8]>, AllocError> {
-    let mut parts = Vec::new(heap);
-    let mut start = 0;
-    for end in 0..=text.len() {
-        if end == text.len() || text[end] == separator {
-            if let Some(part) = text.get(start..end) {
-                parts.push(part)?;
+    text.split(|byte| *byte == separator).collect(heap)
+}
+
+// A decimal number that a word spells. One that is too large or too small counts as the last that there is.
+pub trait Number: Copy + Default {
+    // What a word spells, where it is a number.
+    ghost spelling: { List ℕ → Option Self };
+
+    fn spelled(word: &[u8]) -> Result<Self, Problem>
+        ensures { result ≡ ok_or (spelling word.now) NotNumber };
+}
+
+// Without a sign.
+impl Number for usize {
+    ghost spelling = { unsigned };
+
+    fn spelled(word: &[u8]) -> Result<usize, Problem> {
+        match std::str::from_utf8(word) {
+            Ok(digits) if is_number(word) => Ok(digits.parse().unwrap_or(usize::MAX)),
+            _ => Err(Problem::NotNumber),
+        }
+    }
+}
+
+// Digits alone, since `parse` takes a plus sign too.
+fn is_number(word: &[u8]) -> bool
+    ensures { result ≡ spells_number word.now }
+{
+    !word.is_empty() && word.iter().all(u8::is_ascii_digit)
+}
+
+// With a minus sign, or none.
+impl Number for i64 {
+    ghost spelling = { signed };
+
+    fn spelled(word: &[u8]) -> Result<i64, Problem> {
+        match word {
+            [b'-', digits @ ..] => {
+                let number = usize::spelled(digits)?;
+                Ok(i64::try_from(number).map_or(i64::MIN, |number| -number))
             }
-            start = end.saturating_add(1);
+            digits => Ok(i64::try_from(usize::spelled(digits)?).unwrap_or(i64::MAX)),
         }
     }
-    Ok(parts)
 }
 
-// A decimal number with no sign. One that is too large counts as the largest that there is.
-pub fn unsigned(word: &[u8]) -> Result<usize, Problem> {
-    if word.is_empty() {
-        return Err(Problem::NotNumber);
-    }
-    let mut number = 0usize;
-    for letter in word {
-        match *letter {
-            b'0'..=b'9' => number = number
-                .saturating_mul(10)
-                .saturating_add(usize::from(*letter - b'0')),
-            _ => return Err(Problem::NotNumber),
-        }
-    }
-    Ok(number)
-}
-
-// A decimal number that may have a sign. One that is too large or too small counts as the last that there is.
-pub fn signed(word: &[u8]) -> Result<i64, Problem> {
-    match word {
-        [b'-', digits @ ..] => match i64::try_from(unsigned(digits)?) {
-            Ok(number) => Ok(number.wrapping_neg()),
-            Err(_) => Ok(i64::MIN),
-        },
-        digits => Ok(i64::try_from(unsigned(digits)?).unwrap_or(i64::MAX)),
-    }
-}
-
-// The numbers of a line that has so many of them and nothing else.
-pub fn all_unsigned<const N: usize>(words: &[&[u8]]) -> Result<[usize; N], Problem> {
+// The numbers of words that are so many and nothing else.
+pub fn all<T: Number, const N: usize>(words: &[&[u8]]) -> Result<[T; N], Problem>
+    ensures count { length words.now ≢ N → result ≡ Err WrongCount }
+    ensures spelled { IfOk result (λ numbers. (k : ℕ) (w : _) (d : T) → k < N → T.spelling (slice_index_or words.now k w).now ≡ Some (slice_index_or numbers k d)) }
+{
     if words.len() != N {
         return Err(Problem::WrongCount);
     }
-    let mut numbers = [0; N];
-    for i in 0..N {
-        match unsigned(words[i]) {
-            Ok(number) => numbers[i] = number,
-            Err(problem) => return Err(problem),
-        }
-    }
-    Ok(numbers)
-}
-
-pub fn all_signed<const N: usize>(words: &[&[u8]]) -> Result<[i64; N], Problem> {
-    if words.len() != N {
-        return Err(Problem::WrongCount);
-    }
-    let mut numbers = [0; N];
-    for i in 0..N {
-        match signed(words[i]) {
-            Ok(number) => numbers[i] = number,
-            Err(problem) => return Err(problem),
-        }
+    let mut numbers = [T::default(); N];
+    for (i, word) in words.iter().enumerate() {
+        numbers[i] = T::spelled(word)?;
     }
     Ok(numbers)
 }
 
 // A size in DVI units. A number that no call can be given counts as the nearest that can; the library refuses both.
-pub fn size(number: i64) -> u32 {
+pub fn size(number: i64) -> u32
+    ensures within { (n : ℕ) → n < 2 ^ 32 → number ≡ pos n → result ≡ n }
+    ensures above { (n : ℕ) → 2 ^ 32 ≤ n → number ≡ pos n → result ≡ 2 ^ 32 - 1 }
+    ensures below { (n : ℕ) → number ≡ negsuc n → result ≡ 0 }
+{
     u32::try_from(number.max(0)).unwrap_or(u32::MAX)
 }
 
 // A font. A number that no call can be given counts as the last, which no shelf has.
-pub fn font(number: i64) -> u16 {
+pub fn font(number: i64) -> u16
+    ensures within { (n : ℕ) → n < 2 ^ 16 → number ≡ pos n → result ≡ n }
+    ensures above { (n : ℕ) → 2 ^ 16 ≤ n → number ≡ pos n → result ≡ 2 ^ 16 - 1 }
+    ensures below { (n : ℕ) → number ≡ negsuc n → result ≡ 2 ^ 16 - 1 }
+{
     u16::try_from(number).unwrap_or(u16::MAX)
 }
 
 // The bytes that a word spells by two digits each, or `-` for none.
 pub fn bytes(word: &[u8], heap: Global) -> Result<Vec<u8>, Problem> {
-    if word == b"-".as_slice() {
-        return Ok(Vec::new(heap));
+    match word {
+        b"-" => Ok(Vec::new(heap)),
+        digits => digits
+            .chunks(2)
+            .map(|pair| byte_of(pair).ok_or(Problem::NotBytes))
+            .try_collect(heap),
     }
-    let mut spelled = Vec::with_capacity(heap, word.len() / 2)?;
-    for pair in word.chunks(2) {
-        match byte_of(pair) {
-            Some(byte) => spelled.push(byte)?,
-            None => return Err(Problem::NotBytes),
-        }
-    }
-    Ok(spelled)
 }
 
 // The four bytes of a fix_word as one number.
@@ -106,24 +104,19 @@ pub fn fix_word(word: &[u8]) -> Result<u32, Problem> {
     if word.len() != 8 {
         return Err(Problem::NotBytes);
     }
-    let mut number = 0;
-    for letter in word {
-        match digit_of(*letter) {
-            Some(digit) => number = number << 4 | u32::from(digit),
-            None => return Err(Problem::NotBytes),
-        }
-    }
-    Ok(number)
+    word.iter()
+        .try_fold(
+            0u32,
+            |number, letter| Some(number << 4 | u32::from(digit_of(*letter)?)),
+        )
+        .ok_or(Problem::NotBytes)
 }
 
 fn byte_of(pair: &[u8]) -> Option<u8> {
     let [high, low] = pair else {
         return None;
     };
-    match (digit_of(*high), digit_of(*low)) {
-        (Some(high), Some(low)) => Some(high * 16 + low),
-        _ => None,
-    }
+    Some(digit_of(*high)? * 16 + digit_of(*low)?)
 }
 
 fn digit_of(letter: u8) -> Option<u8>

@@ -6,7 +6,7 @@ mod files;
 mod options;
 mod output;
 
-pub use failure::{Failure, told};
+pub use failure::Failure;
 pub use files::read;
 pub use options::{Font, Options};
 pub use output::Output;

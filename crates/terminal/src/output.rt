@@ -4,57 +4,50 @@ use std::fmt::Display;
 use std::io;
 use std::io::{BufWriter, Stdout, Write};
 
-// Standard output with a buffer, or with none where there is no memory for it. The first error is kept until the end, so
-// that what writes need not look at each.
+// Standard output with a buffer, or with none where there is no memory for it. The first error takes the writer's place
+// and is kept until the end, so that what writes need not look at each.
 #[derive(Drop)]
 pub struct Output {
-    to: BufWriter<Stdout>,
-    state: io::Result<()>,
+    to: io::Result<BufWriter<Stdout>>,
 }
 
 impl Output {
     pub fn new(rt: &HostRuntime) -> Output {
-        let to = match BufWriter::new(rt.alloc(), rt.stdout()) {
-            Ok(to) => to,
-            Err(_) => unbuffered(rt),
-        };
-        Output { to, state: Ok(()) }
+        Output {
+            to: Ok(BufWriter::new(rt.alloc(), rt.stdout()).unwrap_or_else(|_| unbuffered(rt))),
+        }
     }
 
     // What `write!` and `writeln!` call.
     pub fn write_fmt<D: Display + Drop>(&mut self, text: D) {
-        if self.state.is_ok() {
-            self.state = self.to.write_fmt(text);
+        if let Ok(to) = &mut self.to {
+            if let Err(error) = to.write_fmt(text) {
+                self.to = Err(error);
+            }
         }
     }
 
     // Bytes as they are, which need not be text.
     pub fn write_bytes(&mut self, bytes: &[u8]) {
-        if self.state.is_ok() {
-            self.state = self.to.write_all(bytes);
+        if let Ok(to) = &mut self.to {
+            if let Err(error) = to.write_all(bytes) {
+                self.to = Err(error);
+            }
         }
     }
 
     pub fn has_failed(&self) -> bool {
-        self.state.is_err()
+        self.to.is_err()
     }
 
     // Writes what the buffer still holds, and tells whether all was written.
-    pub fn finish(mut self) -> Result<(), Failure> {
-        if self.state.is_ok() {
-            self.state = self.to.flush();
-        }
-        match self.state {
-            Ok(()) => Ok(()),
-            Err(error) => Err(Failure::Output(error)),
-        }
+    pub fn finish(self) -> Result<(), Failure> {
+        let mut to = self.to?;
+        Ok(to.flush()?)
     }
 }
 
 // A writer that hands on each piece at once, and takes no memory.
 fn unbuffered(rt: &HostRuntime) -> BufWriter<Stdout> {
-    match BufWriter::with_capacity(rt.alloc(), 0, rt.stdout()) {
-        Ok(to) => to,
-        Err(_) => unreachable!(),
-    }
+    BufWriter::with_capacity(rt.alloc(), 0, rt.stdout()).unwrap()
 }

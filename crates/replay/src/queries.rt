@@ -1,0 +1,113 @@
+// The calls that a shelf answers and that change nothing, whatever its layers are.
+use answers::{Lists, Told};
+use script::{Number, Problem};
+use shelf::{Cause, Refusal, Shelf, start};
+use std::alloc::{AllocError, Global};
+use terminal::Output;
+
+// Every shelf answers the same calls: they are a value, so that only `Current::ask` goes through the kinds of shelves.
+#[derive(Drop)]
+pub enum Query {
+    Count,
+    Find(Vec<u8>),
+    Face(u16),
+    // With so many entries in the mark list and the chain list.
+    Character {
+        asked: Asked,
+        marks: usize,
+        chain: usize,
+    },
+}
+
+impl Query {
+    pub fn parse(words: &[&[u8]], heap: Global) -> Result<Query, Problem> {
+        match words {
+            [b"count"] => Ok(Query::Count),
+            [b"find", name] => Ok(Query::Find(script::bytes(name, heap)?)),
+            [b"face", k] => Ok(Query::Face(script::font(i64::spelled(k)?))),
+            [b"character", point @ .., marks, chain] => Ok(Query::Character {
+                asked: Asked::parse(point)?,
+                marks: usize::spelled(marks)?,
+                chain: usize::spelled(chain)?,
+            }),
+            _ => Err(Problem::WrongCount),
+        }
+    }
+
+    pub fn put_to<S: Shelf>(
+        &self,
+        shelf: &S,
+        heap: Global,
+        out: &mut Output,
+    ) -> Result<(), AllocError> {
+        match self {
+            Query::Count => writeln!(out, "ok {}", Told(shelf.count())),
+            Query::Find(name) => match shelf.find(name.as_slice()) {
+                Some(font) => writeln!(out, "ok {font}"),
+                None => writeln!(out, "ok none"),
+            },
+            Query::Face(k) => match shelf.face(*k) {
+                Some(face) => writeln!(out, "ok {}", Told(face)),
+                None => writeln!(out, "ok none"),
+            },
+            Query::Character {
+                asked,
+                marks,
+                chain,
+            } => {
+                let mut lists = Lists::fresh(*marks, *chain, heap)?;
+                match asked.put_to(shelf, &mut lists) {
+                    Ok((count, width)) => writeln!(out, "ok {count} {width}"),
+                    Err(refusal) => writeln!(out, "{}", Told(refusal)),
+                }
+                lists.tell(out);
+            }
+        }
+        Ok(())
+    }
+}
+
+// A character that is asked for. The code may be one that no call can be given.
+#[derive(Clone, Copy)]
+pub struct Asked {
+    font: u16,
+    size: u32,
+    code: i64,
+    h: i64,
+    v: i64,
+}
+
+impl Asked {
+    fn parse(point: &[&[u8]]) -> Result<Asked, Problem> {
+        let [font, size, code, h, v] = script::all::<i64, 5>(point)?;
+        Ok(Asked {
+            font: script::font(font),
+            size: script::size(size),
+            code,
+            h,
+            v,
+        })
+    }
+
+    fn put_to<S: Shelf>(&self, shelf: &S, lists: &mut Lists) -> Result<(usize, i64), Refusal> {
+        let code = u8::try_from(self.code).map_err(|_| self.without_code(shelf))?;
+        shelf.character(
+            self.font,
+            self.size,
+            code,
+            self.h,
+            self.v,
+            lists.chain.as_mut_slice(),
+            lists.marks.as_mut_slice(),
+        )
+    }
+
+    // The refusal of a code that no call can be given: font, size and position are looked at before the code.
+    fn without_code<S: Shelf>(&self, shelf: &S) -> Refusal {
+        let fonts = shelf.count().fonts;
+        let cause = start(fonts, self.font, self.size, self.h, self.v)
+            .err()
+            .unwrap_or(Cause::NoCode);
+        Refusal::Fault { cause, links: 0 }
+    }
+}
