@@ -3,7 +3,7 @@ ghost use Rattle.std.specs.Prelude.{◌≡◌, ◌<◌, ◌≤◌};
 
 use crate::fonts;
 use crate::points::Points;
-use shelf::{Mark, Shelf};
+use shelf::{Asked, Mark, Shelf};
 use terminal::{Failure, Options, Output};
 use tfm::TfmShelf;
 
@@ -84,9 +84,14 @@ impl FaceOn<'_> {
             h: 0,
             v: 0,
         }];
-        let answer = self
-            .shelf
-            .character(self.k, size, code, 0, 0, &mut [], &mut marks);
+        let asked = Asked {
+            font: self.k,
+            size,
+            code,
+            h: 0,
+            v: 0,
+        };
+        let answer = self.shelf.character(asked, &mut [], &mut marks);
         answer.ok().map(|(_, width)| width)
     }
 }

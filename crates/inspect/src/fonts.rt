@@ -19,7 +19,7 @@ pub fn shelf_of(rt: &HostRuntime, fonts: &[Font]) -> Result<TfmShelf, Failure> {
     TfmShelf::new(loaded.bytes.as_slice(), loaded.entries.as_slice(), heap).try_map_err(
         |why| match why {
             NotMade::Refused(refusal) => refused(refusal, fonts, heap),
-            NotMade::NoMemory => Ok(Failure::NoMemory(AllocError)),
+            NotMade::NoMemory(error) => Ok(error.into()),
         },
     )
 }

@@ -1,7 +1,7 @@
 // The calls that a shelf answers and that change nothing, whatever its layers are.
 use answers::{Lists, Told};
 use script::{Number, Problem};
-use shelf::{Cause, Refusal, Shelf, start};
+use shelf::{Asked, Cause, Refusal, Shelf};
 use std::alloc::{AllocError, Global};
 use terminal::Output;
 
@@ -13,7 +13,7 @@ pub enum Query {
     Face(u16),
     // With so many entries in the mark list and the chain list.
     Character {
-        asked: Asked,
+        asked: AnyCode,
         marks: usize,
         chain: usize,
     },
@@ -26,7 +26,7 @@ impl Query {
             [b"find", name] => Ok(Query::Find(script::bytes(name, heap)?)),
             [b"face", k] => Ok(Query::Face(script::font(i64::spelled(k)?))),
             [b"character", point @ .., marks, chain] => Ok(Query::Character {
-                asked: Asked::parse(point)?,
+                asked: AnyCode::parse(point)?,
                 marks: usize::spelled(marks)?,
                 chain: usize::spelled(chain)?,
             }),
@@ -67,36 +67,32 @@ impl Query {
     }
 }
 
-// A character that is asked for. The code may be one that no call can be given.
+// A character that is asked for by a code that no call may be given.
 #[derive(Clone, Copy)]
-pub struct Asked {
-    font: u16,
-    size: u32,
+pub struct AnyCode {
+    // what is asked for but for the code
+    asked: Asked,
     code: i64,
-    h: i64,
-    v: i64,
 }
 
-impl Asked {
-    fn parse(point: &[&[u8]]) -> Result<Asked, Problem> {
+impl AnyCode {
+    fn parse(point: &[&[u8]]) -> Result<AnyCode, Problem> {
         let [font, size, code, h, v] = script::all::<i64, 5>(point)?;
-        Ok(Asked {
+        let asked = Asked {
             font: script::font(font),
             size: script::size(size),
-            code,
+            code: 0,
             h,
             v,
-        })
+        };
+        Ok(AnyCode { asked, code })
     }
 
     fn put_to<S: Shelf>(&self, shelf: &S, lists: &mut Lists) -> Result<(usize, i64), Refusal> {
         let code = u8::try_from(self.code).map_err(|_| self.without_code(shelf))?;
+        let asked = Asked { code, ..self.asked };
         shelf.character(
-            self.font,
-            self.size,
-            code,
-            self.h,
-            self.v,
+            asked,
             lists.chain.as_mut_slice(),
             lists.marks.as_mut_slice(),
         )
@@ -104,10 +100,7 @@ impl Asked {
 
     // The refusal of a code that no call can be given: font, size and position are looked at before the code.
     fn without_code<S: Shelf>(&self, shelf: &S) -> Refusal {
-        let fonts = shelf.count().fonts;
-        let cause = start(fonts, self.font, self.size, self.h, self.v)
-            .err()
-            .unwrap_or(Cause::NoCode);
-        Refusal::Fault { cause, links: 0 }
+        let started = self.asked.start(shelf.count().fonts);
+        started.err().unwrap_or(Cause::NoCode).into()
     }
 }

@@ -33,7 +33,7 @@ impl From<NotMade> for Stop {
     fn from(why: NotMade) -> Stop {
         match why {
             NotMade::Refused(refusal) => refusal.into(),
-            NotMade::NoMemory => AllocError.into(),
+            NotMade::NoMemory(error) => error.into(),
         }
     }
 }

@@ -23,4 +23,4 @@ pub record Faces (bytes : List ℕ) (es : List Entry) (fs : List TfmFace) : Type
 abbrev pub Listed : List ℕ → List Entry → Result (Vec TfmFace Global) NotMade → Type 0
 Listed bytes es (Ok v) = Faces bytes es (vec_items v)
 Listed bytes es (Err (Refused e)) = Err e ≡ entered_from bytes [] 0 es
-Listed bytes es (Err NoMemory) = Unit {0}
+Listed bytes es (Err (NoMemory e)) = Unit {0}

@@ -54,4 +54,4 @@ entries bytes es = cond (nat_le (length es) 32 && nat_le (length bytes) 1048576)
 abbrev pub Made : List ℕ → List Entry → Result TfmShelf NotMade → Type 0
 Made bytes es (Ok s) = (vec_items s.bytes ≡ bytes) × (Ok (map outline_of (vec_items s.faces)) ≡ entries bytes es)
 Made bytes es (Err (Refused e)) = Err e ≡ entries bytes es
-Made bytes es (Err NoMemory) = Unit {0}
+Made bytes es (Err (NoMemory e)) = Unit {0}

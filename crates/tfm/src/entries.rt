@@ -18,7 +18,7 @@ pub struct Entry {
 #[derive(Clone, Copy, Debug, Eq, PartialEq)]
 pub enum NotMade {
     Refused(Refusal),
-    NoMemory,
+    NoMemory(AllocError),
 }
 
 impl From<Refusal> for NotMade {
@@ -30,9 +30,9 @@ impl From<Refusal> for NotMade {
 }
 
 impl From<AllocError> for NotMade {
-    ghost from_gives = { λ _ r. r ≡ NoMemory };
+    ghost from_gives = { λ e r. r ≡ NoMemory e };
 
-    fn from(_: AllocError) -> NotMade {
-        NotMade::NoMemory
+    fn from(e: AllocError) -> NotMade {
+        NotMade::NoMemory(e)
     }
 }
