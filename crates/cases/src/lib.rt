@@ -13,5 +13,4 @@ mod sample;
 // The worked values of docs/FORMATS.md and docs/REFUSALS.md follow from the definitions that the contracts cite.
 pub fn worked_values()
     ensures { WorkedValues }
-{
-}
+{}
