@@ -4,8 +4,7 @@
 ghost use Rattle.packets.specs.Worked.{WorkedPackets};
 
 // The packets of docs/PACKETS.md have the outcomes stated there by the definitions that the contracts cite.
-pub fn worked_packets() -> u8
+pub fn worked_packets()
     ensures { WorkedPackets }
 {
-    0
 }
