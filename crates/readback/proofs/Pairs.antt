@@ -1,9 +1,8 @@
 -- The pairs of a copy as it grows: each number keeps its pair, and each new pair is a good one of the bytes written. Assumes nothing.
-use Rattle.std.proofs.Common.{◌≡◌, ℕ, zero, suc, ◌+◌, ◌<◌, ◌≤◌, Bool, true, eqb, List, [], ◌∷◌, ◌++◌, length, get_or, is_some, Some, None, Option, sym, refl, ap, ◌∙◌, subst, append_assoc, append-nil, arith, length-append}
+use Rattle.std.proofs.Common.{◌≡◌, ℕ, zero, suc, ◌+◌, ◌<◌, ◌≤◌, Bool, true, List, [], ◌∷◌, ◌++◌, length, get_or, is_some, Some, None, Option, sym, refl, ap, ◌∙◌, subst, append_assoc, append-nil, arith, length-append}
 use Rattle.std.specs.List.{AllByRecursion, slice_get}
 use Rattle.std.proofs.ByRecursion.{All-append, All-weaker}
 use Rattle.std.proofs.lemmas.Option.{slice_get-get_or}
-use Rattle.std.proofs.lemmas.Bool.{eqb-true, and_parts}
 use Rattle.numbers.specs.Lengths.{good_size}
 use Rattle.numbers.proofs.Seek.{match_within, match_passes}
 use Rattle.shelf.specs.declared.marks.Mark.{Mark}
@@ -18,23 +17,13 @@ use Rattle.readback.specs.Reading.{pair_font}
 
 -- by number
 pub nth_front : {X : Type 0} (xs ys : List X) (i : ℕ) (x : X) → slice_get xs i ≡ Some x → slice_get (xs ++ ys) i ≡ Some x
-nth_front [] ys i x e = absurd (let z : ◌≡◌ {A = ℕ} 0 1 = cc in omega arith)
+nth_front [] ys i x e = cc
 nth_front (y ∷ xs) ys zero x e = e
 nth_front (y ∷ xs) ys (suc i) x e = nth_front xs ys i x e
 
 pub nth_new : {X : Type 0} (xs : List X) (x : X) (ys : List X) → slice_get (xs ++ (x ∷ ys)) (length xs) ≡ Some x
 nth_new [] x ys = refl
 nth_new (y ∷ xs) x ys = nth_new xs x ys
-
-pub nth_within : {X : Type 0} (xs : List X) (i : ℕ) (x : X) → slice_get xs i ≡ Some x → i < length xs
-nth_within [] i x e = absurd (let z : ◌≡◌ {A = ℕ} 0 1 = cc in omega arith)
-nth_within (y ∷ xs) zero x e = omega arith
-nth_within (y ∷ xs) (suc i) x e = let r = nth_within xs i x e in omega arith
-
-pub all_nth : {X : Type 0} (P : X → Type 0) (xs : List X) (i : ℕ) (x : X) → AllByRecursion P xs → slice_get xs i ≡ Some x → P x
-all_nth P [] i x a e = absurd (let z : ◌≡◌ {A = ℕ} 0 1 = cc in omega arith)
-all_nth P (y ∷ xs) zero x a e = let q : y ≡ x = cc in subst P q a.0
-all_nth P (y ∷ xs) (suc i) x a e = all_nth P xs i x a.1 e
 
 -- a pair of a number, of the same face and size as another
 pub record Alike (ps : List Pair) (n face size : ℕ) : Type 0 where
@@ -50,8 +39,8 @@ pair_found ps face size n e =
     let test : Pair → Bool = λ p. is_pair p (face, size) in
     let within = match_within test ps n e in
     let p = get_or ps n d in
-    let both = and_parts (eqb p.face face) (eqb p.size size) (match_passes test ps d n e) in
-    record { pair = p; is = slice_get-get_or ps n d within; face-is = eqb-true p.face face both.0; size_is = eqb-true p.size size both.1 }
+    let passes = match_passes test ps d n e in
+    record { pair = p; is = slice_get-get_or ps n d within; face-is = grind arith; size_is = grind arith }
 
 -- a pair's number, once it has one
 pub pair-numbered : (ps : List Pair) (p : Pair) (o : Option ℕ) → pair_by ps p.face p.size ≡ o → Alike (entered ps o p) (numbered ps o) p.face p.size
@@ -107,8 +96,7 @@ GoodPair m p = (good_size p.size ≡ true) × (is_some (slice_get m.faces p.face
 
 -- a face that has a width is there
 pub face-is_there : (o : Option FaceMeaning) (size code : ℕ) → is_some (width_in o size code) ≡ true → is_some o ≡ true
-face-is_there (Some f) size code e = refl
-face-is_there None size code e = e
+face-is_there o size code e = grind arith
 
 module _ (F : ℕ → Facts) where
   -- the next byte's place
