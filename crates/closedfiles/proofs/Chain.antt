@@ -1,8 +1,7 @@
 -- The pages of the file, from the last one back. Assumes nothing.
-use Rattle.std.proofs.Common.{◌≡◌, ℕ, zero, suc, ◌+◌, ◌^◌, ◌<◌, ◌≤◌, true, ltb, leb, List, [], ◌∷◌, ◌++◌, length, get_or, drop, Some, None, refl, ap, ◌∙◌, subst, append_assoc, arith}
+use Rattle.std.proofs.Common.{◌≡◌, ℕ, zero, suc, ◌+◌, ◌^◌, ◌<◌, ◌≤◌, true, List, [], ◌∷◌, ◌++◌, length, get_or, drop, Some, None, refl, ap, ◌∙◌, subst, append_assoc, arith}
 use Rattle.std.specs.List.{AllByRecursion, slice_get}
 use Rattle.std.proofs.lemmas.List.{drop_at}
-use Rattle.std.proofs.lemmas.Bool.{lt-ltb, le-leb, eq-eqb, and_from}
 use Rattle.numbers.specs.Bytes.{digits}
 use Rattle.shelf.specs.Meaning.{Meaning, Facts}
 use Rattle.copies.specs.Marks.{marks_bytes}
@@ -27,10 +26,7 @@ module _ (F : ℕ → Facts) where
   pub last_fits : (ps : List Page) → (progress F ps).used < 2 ^ 32 → (progress F ps).last < 2 ^ 32
   unfolding progress with_page
   last_fits [] h = omega arith
-  last_fits (p ∷ ps) h = omega (arith, h, used-more ps p)
-    where
-      used-more : (qs : List Page) (x : Page) → (progress F qs).used ≤ (with_page F (progress F qs) x).used
-      used-more qs x = omega (arith, page-used F (progress F qs) x)
+  last_fits (p ∷ ps) h = omega (arith, h, page-used F (progress F ps) p)
 
   module _ (mag : ℕ) (s : List ℕ) where
     -- the newest page stands behind the others
@@ -95,9 +91,7 @@ module _ (F : ℕ → Facts) where
         let least = used-least F ps in
         let comment = no_comment mag s ps (page_bytes F (progress F ps) p ++ rest) next.0 in
         let ok : leads s q limit a ≡ true =
-        and_from (leb (past_comment s) a) _ (le-leb (past_comment s) a (omega arith))
-        (and_from (leb (a + 45) q) _ (le-leb (a + 45) q (omega arith))
-        (and_from (ltb a limit) _ (lt-ltb a limit (omega arith)) (eq-eqb (get_or s a 0) 139 (page-first s a (progress F ps) p rest counted.0 next.1)))) in
+        let first = page-first s a (progress F ps) p rest counted.0 next.1 in grind arith in
         chain-on (length ps) limit place a (at ∙ last-is p ps) ok
         ∙ chain_whole ps (page_bytes F (progress F ps) p ++ rest) a (a + 41) counted.1 next.0 (omega arith) (omega arith) (omega arith)
         (page_pointer s a (progress F ps) p rest counted.0 next.1 (last_fits ps (omega arith)))
