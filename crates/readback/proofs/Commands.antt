@@ -1,5 +1,5 @@
 -- The commands that a copy writes, read where their bytes stand. Assumes nothing.
-use Rattle.std.proofs.Common.{◌≡◌, ℕ, ◌+◌, ◌-◌, ◌*◌, ◌/◌, ◌%◌, ◌^◌, ◌<◌, true, List, [], ◌∷◌, ◌++◌, length, drop, ℤ, pos, Some, sym, refl, ap, ◌∙◌, ap₂, arith}
+use Rattle.std.proofs.Common.{◌≡◌, ℕ, ◌+◌, ◌*◌, ◌/◌, ◌%◌, ◌^◌, ◌<◌, true, List, [], ◌∷◌, ◌++◌, length, drop, ℤ, pos, Some, refl, ap, ◌∙◌, ap₂, arith}
 use Rattle.std.specs.Option.{option_map}
 use Rattle.std.proofs.lemmas.Bool.{lt-ltb, le-ltb, le-leb, cond-true}
 use Rattle.numbers.specs.Bytes.{is_width, digits, complement, signed_fits, signed_at}
@@ -44,9 +44,7 @@ module _ (s : List ℕ) (at : ℕ) (rest : List ℕ) where
   down-at w z e p q f = length-at (156 + w) w z down (ap (λ k. read_by k s at) (kind_down w p q)) e p q f
 
   pub select_at : (n : ℕ) → drop at s ≡ (171 + n) ∷ rest → n < 64 → command_at s at ≡ Some (fnt n, 1)
-  select_at n e h =
-      command_by s at (171 + n) _ e ∙ ap (λ k. read_by k s at) (kind_select n h)
-      ∙ ap (λ b. Some (fnt (b - 171), 1)) (head_at s at (171 + n) _ e).1 ∙ ap (λ k. Some (fnt k, 1)) (omega arith)
+  select_at n e h = grind (arith, command_by, kind_select, head_at)
 
   pub put-at : (c : ℕ) → drop at s ≡ 133 ∷ (c ∷ rest) → c < 256 → command_at s at ≡ Some (put (pos c), 2)
   put-at c e h =
@@ -125,4 +123,4 @@ module _ (s : List ℕ) (at n size : ℕ) (f : Facts) (rest : List ℕ) (e : dro
 
   pub define_at : command_at s at ≡ Some (fnt_def (defined_by n size f), length (define_bytes n size f))
   unfolding define_bytes
-  define_at = command_by s at 243 _ e ∙ ap (option_map (λ d. (fnt_def d, 16 + length d.name))) definition-at ∙ ap (λ k. Some (fnt_def (defined_by n size f), k)) (sym (length_define n size f))
+  define_at = grind (arith, command_by, definition-at, length_define)

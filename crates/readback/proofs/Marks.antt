@@ -1,5 +1,5 @@
 -- Marks that were written are read again: a move, a definition, a selection, a glyph and a rule, and then all of a page's. Assumes nothing.
-use Rattle.std.proofs.Common.{◌≡◌, ℕ, ◌+◌, ◌<◌, ◌≤◌, Bool, true, false, cond, eqb, List, [], ◌∷◌, ◌++◌, map, length, drop, ℤ, pos, ◌+ℤ◌, ◌-ℤ◌, nat_abs, is_some, Some, None, Ok, Err, Option, Result, sym, refl, ap, ◌∙◌, subst, ap₂, arith}
+use Rattle.std.proofs.Common.{◌≡◌, ℕ, ◌+◌, ◌<◌, ◌≤◌, Bool, true, false, cond, eqb, List, [], ◌∷◌, ◌++◌, map, length, drop, ℤ, pos, ◌-ℤ◌, nat_abs, is_some, Some, None, Ok, Err, Option, Result, sym, refl, ap, ◌∙◌, subst, arith}
 use Rattle.std.specs.List.{AllByRecursion, slice_get}
 use Rattle.std.proofs.ByRecursion.{All-get_or}
 use Rattle.std.proofs.lemmas.Option.{slice_get_within}
@@ -7,7 +7,6 @@ use Rattle.std.proofs.lemmas.Int.{ints}
 use Rattle.std.proofs.lemmas.Bool.{eqb-true, lt-ltb}
 use Rattle.numbers.specs.Bytes.{digits, complement, signed_fits}
 use Rattle.numbers.specs.Lengths.{in_range}
-use Rattle.numbers.proofs.Digits.{length_digits}
 use Rattle.shelf.specs.declared.marks.Mark.{Mark}
 use Rattle.shelf.specs.declared.marks.Mark.TheVariants.{Glyph, Rule}
 use Rattle.shelf.specs.declared.refusals.Cause.{Cause}
@@ -15,12 +14,12 @@ use Rattle.shelf.specs.Alone.{name_of, faces_alone}
 use Rattle.shelf.specs.Laws.{GoodMark, Lawful}
 use Rattle.shelf.specs.Meaning.{Meaning, Facts, FaceMeaning, width_in, point_at, called}
 use Rattle.shelf.specs.Names.{GoodName}
-use Rattle.shelf.specs.Outcomes.{well, ends, bind}
+use Rattle.shelf.specs.Outcomes.{well, ends}
 use Rattle.shelf.specs.FaceLaws.{named}
 use Rattle.shelf.specs.Finding.{found_within, found_bears}
 use Rattle.commands.specs.Commands.{Cmd, put, put_rule, right, down, fnt, fnt_def, command_at}
 use Rattle.machine.specs.declared.registers.Chosen.{Chosen}
-use Rattle.machine.specs.Steps.{World, State, go, kept, side, sides, drawn, ruled, exec}
+use Rattle.machine.specs.Steps.{World, State, go, side, sides, drawn, exec}
 use Rattle.machine.specs.Runs.{run_from}
 use Rattle.copies.specs.declared.pairs.Pair.{Pair}
 use Rattle.copies.specs.Pairs.{pair_by, numbered, entered}
@@ -61,7 +60,7 @@ pen_state u pen = placed pen.h pen.v (pen_font u pen.last)
 -- a glyph over the faces alone
 face-outcome : (m : Meaning) (face size code : ℕ) (h v w : ℤ) → GoodMark m.faces (Glyph face size code h v) → face < length (map name_of m.faces) → width_in (slice_get m.faces face) size code ≡ Some w → called (faces_alone m) face size code h v ≡ ends (Glyph face size code h v ∷ []) (well w)
 unfolding called
-face-outcome m face size code h v w good k e = rw (lt-ltb face (length (map name_of m.faces)) k, good.2, good.0, good.1, e)
+face-outcome m face size code h v w good k e = grind arith
 
 face-called : (m : Meaning) (face size code : ℕ) (h v : ℤ) → GoodMark m.faces (Glyph face size code h v) → (w : ℤ) × (called (faces_alone m) face size code h v ≡ ends (Glyph face size code h v ∷ []) (well w))
 face-called m face size code h v good =
@@ -71,8 +70,7 @@ face-called m face size code h v good =
 
 -- a rule that makes its mark
 rule_drawn : (fs : List FaceMeaning) (height width : ℕ) (h v : ℤ) → GoodMark fs (Rule height width h v) → drawn (point_at h v) (sides (side (pos height)) (side (pos width))) (pos width) ≡ ends (Rule height width h v ∷ []) (well (pos width))
-rule_drawn fs height width h v good =
-    rw (good.0, good.1, lt-ltb 0 height good.2.0, lt-ltb height 2147483648 good.2.1, lt-ltb 0 width good.2.2, lt-ltb width 2147483648 good.2.3)
+rule_drawn fs height width h v good = grind arith
 
 -- what is told of a face that is there
 pub facts_are : (m : Meaning) (k : ℕ) (f : FaceMeaning) → slice_get m.faces k ≡ Some f → faces_of m k ≡ f.facts
@@ -110,24 +108,20 @@ module _ (u : World) (s : List ℕ) where
       bs = (byte + move_width z) ∷ digits (move_width z) (complement (move_width z) z)
 
       long : 1 + move_width z ≡ length bs
-      long = omega (arith, length_digits (move_width z) (complement (move_width z) z))
+      long = grind arith
 
       by : (b : Bool) → eqb (nat_abs z) 0 ≡ b → Leads u s (cond b [] bs) st [] st'
-      by true e = subst (Leads u s [] st []) (same (eqb-true (nat_abs z) 0 e)) (nothing-leads u s st)
+      by true e = grind arith
       by false e = command_leads u s bs st cmd [] st' (omega (arith, long)) (λ at rest p. reads at rest p ∙ ap (λ k. Some (cmd, k)) long) steps
 
   module _ (m : Meaning) (ps : List Pair) (on : Selects u m ps) where
     right-step : (h v a : ℤ) (o : Option Chosen) → in_range a ≡ true → exec u (right (a -ℤ h)) (placed h v o) ≡ ends [] (well (go (placed a v o)))
     unfolding exec
-    right-step h v a o r =
-        let e : h +ℤ (a -ℤ h) ≡ a = omega (arith, ints) in
-        rw (on.plain (a -ℤ h), e, r)
+    right-step h v a o r = grind arith
 
     down_step : (h v a : ℤ) (o : Option Chosen) → in_range a ≡ true → exec u (down (a -ℤ v)) (placed h v o) ≡ ends [] (well (go (placed h a o)))
     unfolding exec
-    down_step h v a o r =
-        let e : v +ℤ (a -ℤ v) ≡ a = omega (arith, ints) in
-        rw (on.plain (a -ℤ v), e, r)
+    down_step h v a o r = grind arith
 
     right-leads : (h v a : ℤ) (o : Option Chosen) → in_range h ≡ true → in_range a ≡ true → Leads u s (move_bytes 142 (a -ℤ h)) (placed h v o) [] (placed a v o)
     right-leads h v a o p r =
@@ -143,9 +137,7 @@ module _ (u : World) (s : List ℕ) where
 
     rule_step : (height width : ℕ) (h v : ℤ) (o : Option Chosen) → GoodMark m.faces (Rule height width h v) → exec u (put_rule (pos height) (pos width)) (placed h v o) ≡ ends (Rule height width h v ∷ []) (well (go (placed h v o)))
     unfolding exec
-    rule_step height width h v o good =
-        ap₂ (λ a b. bind (ruled a b (placed h v o).at) (kept (placed h v o))) (on.plain (pos height)) (on.plain (pos width))
-        ∙ ap (λ x. bind x (kept (placed h v o))) (rule_drawn m.faces height width h v good)
+    rule_step height width h v o good = grind arith
 
     rule_leads : (height width : ℕ) (h v : ℤ) (o : Option Chosen) → GoodMark m.faces (Rule height width h v) → Leads u s (137 ∷ (digits 4 height ++ digits 4 width)) (placed h v o) (Rule height width h v ∷ []) (placed h v o)
     rule_leads height width h v o good =
@@ -174,7 +166,7 @@ module _ (u : World) (s : List ℕ) where
         selected (Some k) p = let q : k ≡ n = eqb-true k n p in ap (λ x. font_of (u.choose x)) q ∙ ap font_of e
 
         by : (b : Bool) → is_last last n ≡ b → Leads u s (cond b [] ((171 + n) ∷ [])) (placed h v (pen_font u last)) [] (placed h v (Some f))
-        by true p = subst (Leads u s [] (placed h v (pen_font u last)) []) (ap (placed h v) (selected last p)) (nothing-leads u s (placed h v (pen_font u last)))
+        by true p = grind arith
         by false p = command_leads u s ((171 + n) ∷ []) (placed h v (pen_font u last)) (fnt n) [] (placed h v (Some f)) (omega arith) (λ at rest q. select_at s at rest n q few) (select_step n f h v (pen_font u last) e)
 
     put_step : (face size code : ℕ) (h v : ℤ) → GoodMark m.faces (Glyph face size code h v) → exec u (put (pos code)) (placed h v (Some (record { font = face; size = size }))) ≡ ends (Glyph face size code h v ∷ []) (well (go (placed h v (Some (record { font = face; size = size })))))

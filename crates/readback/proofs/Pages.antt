@@ -19,9 +19,7 @@ use Rattle.readback.proofs.Marks.{marks-read}
 module _ (F : ℕ → Facts) where
   pub length-page : (g : Progress) (p : Page) → Counted p → g.used + length (page_bytes F g p) ≡ (with_page F g p).used
   unfolding page_bytes with_page
-  length-page g p forty =
-      let ms = marks_bytes F (page_pen g) p.marks in
-      omega (arith, length-append p.counts (digits 4 g.last ++ (ms ++ (140 ∷ []))), length-append ms (140 ∷ []), length-marks F (page_pen g) p.marks)
+  length-page g p forty = grind (arith, length-append, length-marks)
 
   pub page-used : (g : Progress) (p : Page) → g.used + 46 ≤ (with_page F g p).used
   unfolding with_page

@@ -12,7 +12,7 @@ use Rattle.shelf.specs.Meaning.{Meaning, Facts, FaceMeaning, width_in}
 use Rattle.machine.specs.declared.registers.Chosen.{Chosen}
 use Rattle.copies.specs.declared.pairs.Pair.{Pair}
 use Rattle.copies.specs.Pairs.{is_pair, pair_by, numbered, entered}
-use Rattle.copies.specs.Marks.{Pen, moved_to, font_bytes, shape_bytes, mark_bytes, pen_after, marks_bytes, pen_after_all}
+use Rattle.copies.specs.Marks.{Pen, mark_bytes, pen_after, marks_bytes, pen_after_all}
 use Rattle.readback.specs.Reading.{pair_font}
 
 -- by number
@@ -48,10 +48,7 @@ pair-numbered ps p (Some n) e = pair_found ps p.face p.size n e
 pair-numbered ps p None e = record { pair = p; is = nth_new ps p []; face-is = refl; size_is = refl }
 
 pub alike_font : (ps : List Pair) (n face size : ℕ) (a : Alike ps n face size) → ◌≡◌ {A = Chosen} (pair_font a.pair) (record { font = face; size = size })
-alike_font ps n face size a =
-    let f = a.face-is in
-    let s = a.size_is in
-    cc
+alike_font ps n face size a = grind arith
 
 -- a list that grew by good ones
 pub record Grown (P : Pair → Type 0) (ps qs : List Pair) : Type 0 where
@@ -118,12 +115,7 @@ module _ (F : ℕ → Facts) where
   mark_places : (pen : Pen) (m : Mark) → Grown (Between pen.at (pen_after F pen m).at) pen.pairs (pen_after F pen m).pairs
   unfolding pen_after mark_bytes
   mark_places pen (Rule height width h v) = grown_none _ pen.pairs
-  mark_places pen (Glyph face size code h v) =
-      let m = Glyph face size code h v in
-      let o = pair_by pen.pairs face size in
-      let long = length-append (moved_to pen m) (shape_bytes F pen m) in
-      let shape = length-append (font_bytes F pen o face size) (133 ∷ code ∷ []) in
-      entered_grown (Between pen.at (pen.at + length (mark_bytes F pen m))) pen.pairs o (record { face = face; size = size; place = pen.at + length (moved_to pen m) }) (omega arith, omega arith)
+  mark_places pen (Glyph face size code h v) = grind (arith, length-append, entered_grown)
 
   pub marks_places : (pen : Pen) (ms : List Mark) → Grown (Between pen.at (pen_after_all F pen ms).at) pen.pairs (pen_after_all F pen ms).pairs
   unfolding pen_after_all
@@ -140,8 +132,7 @@ module _ (F : ℕ → Facts) where
   mark_pairs : (m : Meaning) (pen : Pen) (x : Mark) → GoodMark m.faces x → Grown (GoodPair m) pen.pairs (pen_after F pen x).pairs
   unfolding pen_after
   mark_pairs m pen (Rule height width h v) good = grown_none (GoodPair m) pen.pairs
-  mark_pairs m pen (Glyph face size code h v) good =
-      entered_grown (GoodPair m) pen.pairs (pair_by pen.pairs face size) _ (good.2, face-is_there (slice_get m.faces face) size code good.4)
+  mark_pairs m pen (Glyph face size code h v) good = grind (arith, entered_grown, face-is_there)
 
   -- and is good, as the marks are
   pub marks-pairs : (m : Meaning) (pen : Pen) (ms : List Mark) → AllByRecursion (GoodMark m.faces) ms → Grown (GoodPair m) pen.pairs (pen_after_all F pen ms).pairs

@@ -5,7 +5,7 @@ use lib.Seq.{paste}
 use Rattle.std.proofs.lemmas.List.Prefix.{at_reads}
 use Rattle.std.proofs.lemmas.List.{drop_at, drop-drop, take_at, places}
 use Rattle.std.proofs.lemmas.Bool.{cond-true}
-use Rattle.numbers.specs.Bytes.{is_width, number, readable, number_at, signed, signed_at, digits, signed_fits, complement}
+use Rattle.numbers.specs.Bytes.{is_width, number, readable, number_at, signed_at, digits, signed_fits, complement}
 use Rattle.numbers.proofs.Digits.{length_digits, number_same, paste-number, signed-complement}
 
 module _ (s : List ℕ) (at : ℕ) (xs rest : List ℕ) (e : drop at s ≡ xs ++ rest) where
@@ -51,7 +51,4 @@ complement-below w z f = grind arith
 
 -- a length in two's complement
 pub signed_at-is : (s : List ℕ) (at w : ℕ) (z : ℤ) (rest : List ℕ) → drop at s ≡ digits w (complement w z) ++ rest → is_width w ≡ true → 0 < w → signed_fits w z ≡ true → signed_at s at w ≡ Some z
-signed_at-is s at w z rest e width some f =
-    cond-true _ _ _ (readable-at s at w (complement w z) rest e width some)
-    ∙ ap (λ n. Some (signed w n)) (number-at s at w (complement w z) rest e (complement-below w z f))
-    ∙ ap Some (signed-complement w z some f)
+signed_at-is s at w z rest e width some f = grind (arith, cond-true, readable-at, number-at, complement-below, signed-complement)
