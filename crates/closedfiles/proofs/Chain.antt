@@ -1,5 +1,5 @@
 -- The pages of the file, from the last one back. Assumes nothing.
-use Rattle.std.proofs.Common.{◌≡◌, ℕ, zero, suc, ◌+◌, ◌^◌, ◌<◌, ◌≤◌, true, List, [], ◌∷◌, ◌++◌, length, get_or, drop, Some, None, refl, ap, ◌∙◌, subst, append_assoc, arith}
+use Rattle.std.proofs.Common.{◌≡◌, ℕ, zero, suc, ◌+◌, ◌^◌, ◌<◌, ◌≤◌, true, List, [], ◌∷◌, ◌++◌, length, get_or, drop, Some, None, refl, ap, ◌∙◌, append_assoc, arith}
 use Rattle.std.specs.List.{AllByRecursion, slice_get}
 use Rattle.std.proofs.lemmas.List.{drop_at}
 use Rattle.numbers.specs.Bytes.{digits}
@@ -33,9 +33,7 @@ module _ (F : ℕ → Facts) where
     pub page_stands : (p : Page) (ps : List Page) (rest : List ℕ) → AllByRecursion Counted ps → s ≡ body F mag (p ∷ ps) ++ rest
         → (s ≡ body F mag ps ++ (page_bytes F (progress F ps) p ++ rest)) × (drop (progress F ps).used s ≡ page_bytes F (progress F ps) p ++ rest)
     unfolding body
-    page_stands p ps rest counted e =
-        let k = e ∙ append_assoc (body F mag ps) (page_bytes F (progress F ps) p) rest in
-        (k, ap (drop (progress F ps).used) k ∙ drop_at (body F mag ps) _ (progress F ps).used (length-body F mag ps counted))
+    page_stands p ps rest counted e = grind (arith, append_assoc, drop_at, length-body)
 
     no_comment : (ps : List Page) (rest : List ℕ) → s ≡ body F mag ps ++ rest → past_comment s ≡ 15
     unfolding front_bytes
@@ -58,7 +56,7 @@ module _ (F : ℕ → Facts) where
     page-counts = taken s (at + 1) p.counts _ from-counts 40 forty
 
     pub page_pointer : g.last < 2 ^ 32 → four s (at + 41) ≡ g.last
-    page_pointer h = four_is s (at + 41) g.last _ (behind s (at + 1) p.counts _ from-counts 40 (at + 41) forty (omega arith)) h
+    page_pointer h = grind (arith, four_is, behind, from-counts)
 
   last-is : (p : Page) (ps : List Page) → (progress F (p ∷ ps)).last ≡ (progress F ps).used
   unfolding progress with_page
@@ -128,9 +126,7 @@ module _ (F : ℕ → Facts) where
   pub older_pairs : (m : Meaning) (ps : List Page) (j : ℕ) (p : Page) → AllByRecursion (GoodPage m) ps → slice_get ps j ≡ Some p → Grown (GoodPair m) (with_page F (progress F (drop (suc j) ps)) p).pairs (progress F ps).pairs
   unfolding progress
   older_pairs m [] j p good has = cc
-  older_pairs m (x ∷ ps) zero p good has =
-      let same : x ≡ p = cc in
-      subst (λ y. Grown (GoodPair m) (with_page F (progress F ps) y).pairs (with_page F (progress F ps) x).pairs) same (grown_none (GoodPair m) (with_page F (progress F ps) x).pairs)
+  older_pairs m (x ∷ ps) zero p good has = grind (arith, grown_none)
   older_pairs m (x ∷ ps) (suc j) p good has =
       grown_more (GoodPair m) (with_page F (progress F (drop (suc j) ps)) p).pairs (progress F ps).pairs (with_page F (progress F ps) x).pairs
       (older_pairs m ps j p good.1 has) (page-pairs F m (progress F ps) x good.0)

@@ -1,5 +1,5 @@
 -- The definitions at the end of the file, walked over. Assumes nothing.
-use Rattle.std.proofs.Common.{◌≡◌, ℕ, zero, suc, ◌+◌, ◌-◌, ◌/◌, ◌<◌, ◌≤◌, Bool, true, false, eqb, List, [], ◌∷◌, ◌++◌, length, get_or, drop, Some, None, sym, refl, ap, ◌∙◌, ap₂, arith, length-drop}
+use Rattle.std.proofs.Common.{◌≡◌, ℕ, zero, suc, ◌+◌, ◌-◌, ◌/◌, ◌<◌, ◌≤◌, Bool, true, false, eqb, List, [], ◌∷◌, ◌++◌, length, get_or, drop, Some, None, sym, ap, ◌∙◌, ap₂, arith, length-drop}
 use Rattle.std.specs.List.{AllByRecursion, slice_get}
 use Rattle.std.proofs.lemmas.Bool.{eq-eqb, ne_eqb}
 use Rattle.numbers.specs.Lengths.{good_size}
@@ -70,8 +70,7 @@ module _ (m : Meaning) (law : Lawful m) (t : List ℕ) where
   -- the bytes behind the first definition
   next-fonts : (at n : ℕ) (p : Pair) (ps : List Pair) → drop at t ≡ fonts_bytes F n (p ∷ ps) → (drop at t ≡ define_bytes n p.size (F p.face) ++ fonts_bytes F (suc n) ps) × (drop (at + (16 + length (F p.face).name)) t ≡ fonts_bytes F (suc n) ps)
   unfolding fonts_bytes
-  next-fonts at n p ps e =
-      (e, behind t at (define_bytes n p.size (F p.face)) (fonts_bytes F (suc n) ps) e (16 + length (F p.face).name) _ (length_define n p.size (F p.face)) refl)
+  next-fonts at n p ps e = grind (arith, behind, length_define)
 
   no-fonts : (at n : ℕ) → drop at t ≡ fonts_bytes F n [] → length t ≤ at
   unfolding fonts_bytes

@@ -10,7 +10,7 @@ use Rattle.copies.specs.Files.{Opening, front_bytes, post_bytes, end_bytes, prog
 use Rattle.document.specs.Bytes.{four, two}
 use Rattle.document.specs.Fonts.{first_unlawful}
 use Rattle.document.specs.Legal.{sized, started, units_before, ended, units_behind, stated, legal}
-use Rattle.document.specs.Pages.{past_comment, broken_from, broken_pointer}
+use Rattle.document.specs.Pages.{past_comment, broken_pointer}
 use Rattle.readback.proofs.Stands.{behind, read_at, number-at}
 use Rattle.readback.proofs.Pages.{used-least, page-count, progress-pairs}
 use Rattle.closedfiles.specs.Closed.{Writable, end_of, statement}
@@ -74,7 +74,7 @@ module _ (m : Meaning) (law : Lawful m) (o : Opening) (ps : List Page) (w : Writ
   from_last = behind s now.used (248 ∷ []) _ (at_post F o ps w.counted) 1 (now.used + 1) refl refl
 
   field : (k n place : ℕ) (before rest : List ℕ) → drop (now.used + 1) s ≡ before ++ (digits 4 n ++ rest) → length before ≡ k → place ≡ now.used + 1 + k → n < 2 ^ 32 → four s place ≡ n
-  field k n place before rest e l p h = four_is s place n rest (behind s (now.used + 1) before (digits 4 n ++ rest) e k place l p) h
+  field k n place before rest e l p h = grind (arith, four_is, behind)
 
   pub last-is : four s (now.used + 1) ≡ now.last
   last-is = four_is s (now.used + 1) now.last _ from_last (last_fits F ps small)
@@ -104,16 +104,14 @@ module _ (m : Meaning) (law : Lawful m) (o : Opening) (ps : List Page) (w : Writ
 
   -- the checks, in their order
   size-passes : sized s ≡ Ok tt
-  size-passes =
-      let least = used-least F ps in
-      rw (le-leb 54 (length s) (omega (arith, long, fill)), le-leb (length s) 16777216 w.short)
+  size-passes = grind (arith, used-least, le-leb, long, fill)
 
   start-passes : started s ≡ Ok tt
   unfolding front_bytes
   start-passes = rw (front_byte 0 (omega arith), front_byte 1 (omega arith))
 
   units_pass : units_before s ≡ Ok tt
-  units_pass = rw (num_before, den_before, mag-before, le-leb 1 o.mag w.mag-least, le-leb o.mag 32768 w.mag-most)
+  units_pass = grind (arith, num_before, den_before, mag-before, le-leb)
 
   end_byte : get_or s (end + 6 - 6) 0 ≡ 249
   unfolding end_bytes
@@ -127,40 +125,23 @@ module _ (m : Meaning) (law : Lawful m) (o : Opening) (ps : List Page) (w : Writ
   post_byte = read_at s now.used (248 ∷ []) _ (at_post F o ps w.counted) 0 now.used (omega arith) (omega arith)
 
   ending-passes : ended s (end + 6) now.used ≡ Ok tt
-  ending-passes =
-      let least = used-least F ps in
-      let past = past_comment_lem in
-      rw (
-        le-leb (end + 6 + 4) (length s) (omega (arith, long, fill)),
-        le-leb 6 (end + 6) (omega arith),
-        id_byte,
-        end_byte,
-        le-leb (past_comment s) now.used (omega (arith, past, least)),
-        le-leb (now.used + 29) (end + 6 - 6) (omega arith),
-        post_byte,
-      )
+  ending-passes = grind (arith, used-least, past_comment_lem, le-leb, long, fill, id_byte, end_byte, post_byte)
 
   behind-passes : units_behind s now.used ≡ Ok tt
   behind-passes = rw (num_behind, den_behind, mag-behind, mag-before, eq-eqb o.mag o.mag refl)
 
   before-end : take (end + 6 - 6) s ≡ take end s
-  before-end = let e : end + 6 - 6 ≡ end = omega arith in ap (λ k. take k s) e
+  before-end = grind arith
 
   fonts_pass : first_unlawful (take (end + 6 - 6) s) (now.used + 29) ≡ None
   unfolding first_unlawful
-  fonts_pass =
-      ap (λ t. first_unlawful t (now.used + 29)) before-end
-      ∙ all_lawful m law (take end s) now.pairs (now.used + 29) 0 [] (progress-pairs F m ps w.good) (omega (arith, w.few-pairs)) (λ k h. refl) (fonts-last F o ps w.counted)
+  fonts_pass = grind (arith, before-end, all_lawful, progress-pairs, fonts-last)
 
   pages_pass : broken_pointer s now.used ≡ None
-  pages_pass =
-      ap (λ t. broken_from s now.used t now.used (now.used + 1)) pages_are
-      ∙ chain_whole F o.mag s now.used ps _ now.used (now.used + 1) w.counted (file-is F o ps w.counted) (omega arith) (omega arith) small last-is
+  pages_pass = grind (arith, pages_are, chain_whole, file-is, small, last-is)
 
   stated-is : stated s now.used (end + 6 - 6) ≡ statement F o ps
-  stated-is =
-      let e : end + 6 - 6 ≡ end = omega arith in
-      rw (mag-before, l-is, u-is, e, last-is, pages_are)
+  stated-is = grind (arith, mag-before, l-is, u-is, last-is, pages_are)
 
   post_place : four s (end + 6 - 5) ≡ now.used
   post_place =
