@@ -106,7 +106,7 @@ module _ (F : ℕ → Facts) where
     -- the page that has j newer ones
     pub page-back : (ps : List Page) (rest : List ℕ) (j : ℕ) → AllByRecursion Counted ps → s ≡ body F mag ps ++ rest → j < length ps → (progress F ps).used < 2 ^ 32 → page_before s j (progress F ps).last ≡ (progress F (drop (suc j) ps)).used
     page-back [] rest j counted e h small = absurd (omega arith)
-    page-back (p ∷ ps) rest zero counted e h small = ap (page_before s 0) (last-is p ps) ∙ back_none (progress F ps).used
+    page-back (p ∷ ps) rest zero counted e h small = grind (arith, last-is, back_none)
     page-back (p ∷ ps) rest (suc j) counted e h small =
         let a = (progress F ps).used in
         let next = page_stands mag s p ps rest counted.1 e in

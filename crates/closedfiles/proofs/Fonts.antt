@@ -6,7 +6,6 @@ use Rattle.numbers.specs.Lengths.{good_size}
 use Rattle.shelf.specs.Laws.{Lawful}
 use Rattle.shelf.specs.Meaning.{Meaning, Facts}
 use Rattle.shelf.specs.Names.{good_name}
-use Rattle.commands.specs.Definitions.{definition_at}
 use Rattle.copies.specs.declared.pairs.Pair.{Pair}
 use Rattle.copies.specs.Marks.{faces_of, define_bytes}
 use Rattle.copies.specs.Files.{fonts_bytes}
@@ -38,7 +37,7 @@ module _ (t : List ℕ) (at n size : ℕ) (f : Facts) (rest : List ℕ) (e : dro
 
   defined-is : defined_at t at ≡ Some (defined_by n size f)
   unfolding defined_at
-  defined-is = ap (definition_at t at) wide_is ∙ definition-at t at n size f rest e fields
+  defined-is = grind (arith, wide_is, definition-at)
 
   entry_is : entry_of 1 (Some (defined_by n size f)) ≡ entry_at t at
   unfolding entry_at
@@ -78,7 +77,7 @@ module _ (m : Meaning) (law : Lawful m) (t : List ℕ) where
 
   -- each definition is lawful
   pub all_lawful : (ps : List Pair) (at n : ℕ) (ns : List ℕ) → AllByRecursion (GoodPair m) ps → n + length ps ≤ 64 → Below n ns → drop at t ≡ fonts_bytes F n ps → first_of (unlawful t) t at (length t - at) 0 ns ≡ None
-  all_lawful [] at n ns good few new e = sym (miss (unlawful t) t (length t) at ns (no-fonts at n e))
+  all_lawful [] at n ns good few new e = grind (arith, miss, no-fonts)
   all_lawful (p ∷ ps) at n ns good few new e =
       let f = F p.face in
       let fields = pair_fields m p law good.0 n (omega arith) in

@@ -75,7 +75,7 @@ module _ (F : ℕ → Facts) (o : Opening) (ps : List Page) (counted : AllByRecu
   at-fonts = grind (arith, behind, at_post, length_post)
 
   pub at-ending : drop (end_of F g) file ≡ ending
-  at-ending = behind file (g.used + 29) fonts ending at-fonts (length fonts) (end_of F g) refl refl
+  at-ending = grind (arith, behind, at-fonts)
 
   pub at-number : drop (end_of F g + 1) file ≡ digits 4 g.used ++ (2 ∷ replicate filled 223)
   unfolding end_bytes

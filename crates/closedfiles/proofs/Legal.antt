@@ -47,7 +47,7 @@ module _ (m : Meaning) (law : Lawful m) (o : Opening) (ps : List Page) (w : Writ
   -- the front
   front_byte : (i : ℕ) → i < 15 → get_or s i 0 ≡ get_or (front_bytes o.mag) i 0
   unfolding front_bytes
-  front_byte i h = read_at s 0 (front_bytes o.mag) _ (at_front F o ps w.counted) i i h (omega arith)
+  front_byte i h = grind (arith, read_at, at_front)
 
   mag-small : o.mag < 2 ^ 32
   mag-small = omega (arith, w.mag-most)
@@ -108,7 +108,7 @@ module _ (m : Meaning) (law : Lawful m) (o : Opening) (ps : List Page) (w : Writ
 
   start-passes : started s ≡ Ok tt
   unfolding front_bytes
-  start-passes = rw (front_byte 0 (omega arith), front_byte 1 (omega arith))
+  start-passes = grind (arith, front_byte)
 
   units_pass : units_before s ≡ Ok tt
   units_pass = grind (arith, num_before, den_before, mag-before, le-leb)

@@ -183,7 +183,7 @@ module _ (u : World) (s : List ℕ) where
 
     -- the selection of a pair; a new one is defined first
     font-leads : (pen : Pen) (o : Option ℕ) (face size : ℕ) (h v : ℤ) → u.choose (numbered pen.pairs o) ≡ Ok (record { font = face; size = size }) → numbered pen.pairs o < 64 → ((n : ℕ) → n < 64 → Fields n size (faces_of m face)) → Leads u s (font_bytes (faces_of m) pen o face size) (placed h v (pen_font u pen.last)) [] (placed h v (Some (record { font = face; size = size })))
-    font-leads pen (Some n) face size h v chosen few fields = select_leads pen.last n (record { font = face; size = size }) h v chosen few
+    font-leads pen (Some n) face size h v chosen few fields = grind (arith, select_leads)
     font-leads pen None face size h v chosen few fields =
         let n = length pen.pairs in
         let st : State = placed h v (pen_font u pen.last) in

@@ -1,5 +1,5 @@
 -- The pairs of a copy as it grows: each number keeps its pair, and each new pair is a good one of the bytes written. Assumes nothing.
-use Rattle.std.proofs.Common.{◌≡◌, ℕ, zero, suc, ◌+◌, ◌<◌, ◌≤◌, Bool, true, List, [], ◌∷◌, ◌++◌, length, get_or, is_some, Some, None, Option, sym, refl, ap, ◌∙◌, subst, append_assoc, append-nil, arith, length-append}
+use Rattle.std.proofs.Common.{◌≡◌, ℕ, zero, suc, ◌+◌, ◌<◌, ◌≤◌, Bool, true, List, [], ◌∷◌, ◌++◌, length, get_or, is_some, Some, None, Option, sym, refl, ap, ◌∙◌, append_assoc, append-nil, arith, length-append}
 use Rattle.std.specs.List.{AllByRecursion, slice_get}
 use Rattle.std.proofs.ByRecursion.{All-append, All-weaker}
 use Rattle.std.proofs.lemmas.Option.{slice_get-get_or}
@@ -71,13 +71,13 @@ pub grown_weaker : (P Q : Pair → Type 0) → ((p : Pair) → P p → Q p) → 
 grown_weaker P Q w ps qs a = record { more = a.more; is = a.is; each = All-weaker P Q w a.more a.each }
 
 pub grown_keeps : (P : Pair → Type 0) (ps qs : List Pair) → Grown P ps qs → (i : ℕ) (p : Pair) → slice_get ps i ≡ Some p → slice_get qs i ≡ Some p
-grown_keeps P ps qs a i p e = ap (λ xs. slice_get xs i) a.is ∙ nth_front ps a.more i p e
+grown_keeps P ps qs a i p e = grind (arith, nth_front)
 
 pub grown_length : (P : Pair → Type 0) (ps qs : List Pair) → Grown P ps qs → length ps ≤ length qs
 grown_length P ps qs a = omega (arith, ap length a.is, length-append ps a.more)
 
 pub grown_all : (P : Pair → Type 0) (ps qs : List Pair) → Grown P ps qs → AllByRecursion P ps → AllByRecursion P qs
-grown_all P ps qs a b = subst (AllByRecursion P) (sym a.is) (All-append P ps a.more b a.each)
+grown_all P ps qs a b = grind (arith, All-append)
 
 entered_grown : (P : Pair → Type 0) (ps : List Pair) (o : Option ℕ) (p : Pair) → P p → Grown P ps (entered ps o p)
 entered_grown P ps (Some n) p h = grown_none P ps

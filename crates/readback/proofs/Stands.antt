@@ -44,7 +44,7 @@ module _ (s : List ℕ) (at w n : ℕ) (rest : List ℕ) (e : drop at s ≡ digi
       grind arith
 
   pub number_at-is : n < 256 ^ w → number_at s at w ≡ Some n
-  number_at-is h = cond-true _ _ _ readable-at ∙ ap Some (number-at s at w n rest e h)
+  number_at-is h = grind (arith, cond-true, readable-at, number-at)
 
 complement-below : (w : ℕ) (z : ℤ) → signed_fits w z ≡ true → complement w z < 256 ^ w
 complement-below w z f = grind arith
