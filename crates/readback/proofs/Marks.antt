@@ -12,14 +12,14 @@ use Rattle.shelf.specs.declared.marks.Mark.TheVariants.{Glyph, Rule}
 use Rattle.shelf.specs.declared.refusals.Cause.{Cause}
 use Rattle.shelf.specs.Alone.{name_of, faces_alone}
 use Rattle.shelf.specs.Laws.{GoodMark, Lawful}
-use Rattle.shelf.specs.Meaning.{Meaning, Facts, FaceMeaning, width_in, point_at, called}
+use Rattle.shelf.specs.Meaning.{Meaning, Facts, FaceMeaning, width_in, called}
 use Rattle.shelf.specs.Names.{GoodName}
 use Rattle.shelf.specs.Outcomes.{well, ends}
 use Rattle.shelf.specs.FaceLaws.{named}
 use Rattle.shelf.specs.Finding.{found_within, found_bears}
 use Rattle.commands.specs.Commands.{Cmd, put, put_rule, right, down, fnt, fnt_def, command_at}
 use Rattle.machine.specs.declared.registers.Chosen.{Chosen}
-use Rattle.machine.specs.Steps.{World, State, go, side, sides, drawn, exec}
+use Rattle.machine.specs.Steps.{World, State, go, exec}
 use Rattle.machine.specs.Runs.{run_from}
 use Rattle.copies.specs.declared.pairs.Pair.{Pair}
 use Rattle.copies.specs.Pairs.{pair_by, numbered, entered}
@@ -67,10 +67,6 @@ face-called m face size code h v good =
     let f = some_there (slice_get m.faces face) (face-is_there (slice_get m.faces face) size code good.4) in
     let w = some_there (width_in (slice_get m.faces face) size code) good.4 in
     (w.0, face-outcome m face size code h v w.0 good (named m.faces face f.0 [] f.1).0 w.1)
-
--- a rule that makes its mark
-rule_drawn : (fs : List FaceMeaning) (height width : ℕ) (h v : ℤ) → GoodMark fs (Rule height width h v) → drawn (point_at h v) (sides (side (pos height)) (side (pos width))) (pos width) ≡ ends (Rule height width h v ∷ []) (well (pos width))
-rule_drawn fs height width h v good = grind arith
 
 -- what is told of a face that is there
 pub facts_are : (m : Meaning) (k : ℕ) (f : FaceMeaning) → slice_get m.faces k ≡ Some f → faces_of m k ≡ f.facts
