@@ -1,8 +1,14 @@
 // What the maker of a TFM shelf answers for sound and for damaged input.
 use crate::sample::{FILE_LENGTH, SAMPLE, entry, outcome};
+use shelf::Refusal;
 use std::alloc::Global;
 use std::test::Fail;
-use tfm::Entry;
+use tfm::{Entry, NotMade};
+
+// The first entry's file is none.
+const BROKEN: NotMade = NotMade::Refused(Refusal::BrokenTfm { entry: 0 });
+
+const FULL: NotMade = NotMade::Refused(Refusal::ShelfFull);
 
 // A place in the file and the byte put there, each of which breaks the file.
 const BREAKING: [(usize, u8); 22] = [
@@ -48,7 +54,7 @@ const HARMLESS: [(usize, u8); 6] = [
     (40, 255),
 ];
 
-fn patched(place: usize, byte: u8, heap: Global) -> (u8, usize) {
+fn patched(place: usize, byte: u8, heap: Global) -> Result<(), NotMade> {
     let mut bytes = SAMPLE;
     if place < FILE_LENGTH {
         bytes[place] = byte;
@@ -57,13 +63,20 @@ fn patched(place: usize, byte: u8, heap: Global) -> (u8, usize) {
 }
 
 #[test]
+fn refusals_have_their_numbers(rt: HostRuntime) {
+    assert_eq!(rt; Refusal::BrokenTfm { entry: 0 }.number(), 7);
+    assert_eq!(rt; Refusal::ShelfFull.number(), 8);
+    assert_eq!(rt; Refusal::TfmName { entry: 0 }.number(), 9);
+}
+
+#[test]
 fn a_damaged_file_is_refusal_7(rt: HostRuntime) {
-    assert_eq!(rt; outcome(&SAMPLE, &[entry()], rt.alloc()), (0, 0));
+    assert_eq!(rt; outcome(&SAMPLE, &[entry()], rt.alloc()), Ok(()));
     for (place, byte) in BREAKING.iter() {
-        assert_eq!(rt; patched(*place, *byte, rt.alloc()), (7, 0));
+        assert_eq!(rt; patched(*place, *byte, rt.alloc()), Err(BROKEN));
     }
     for (place, byte) in HARMLESS.iter() {
-        assert_eq!(rt; patched(*place, *byte, rt.alloc()), (0, 0));
+        assert_eq!(rt; patched(*place, *byte, rt.alloc()), Ok(()));
     }
 }
 
@@ -79,7 +92,7 @@ fn a_cut_file_is_refusal_7(rt: HostRuntime) {
                 }],
                 rt.alloc(),
             ),
-            (7, 0)
+            Err(BROKEN)
         );
     }
     assert_eq!(rt;
@@ -91,42 +104,41 @@ fn a_cut_file_is_refusal_7(rt: HostRuntime) {
             }],
             rt.alloc(),
         ),
-        (7, 0)
+        Err(BROKEN)
     );
 }
 
 // The second entry's places, and what comes of it after an entry b.
-const SECOND: [(usize, usize, usize, usize, u8); 12] = [
+const SECOND: [(usize, usize, usize, usize, Result<(), Refusal>); 12] = [
     // another name; the same name; the same name with a broken file; the same name with a file outside
-    (45, 1, 0, 44, 0),
-    (44, 1, 0, 44, 9),
-    (44, 1, 0, 40, 9),
-    (44, 1, 3, 44, 7),
+    (45, 1, 0, 44, Ok(())),
+    (44, 1, 0, 44, Err(Refusal::TfmName { entry: 1 })),
+    (44, 1, 0, 40, Err(Refusal::TfmName { entry: 1 })),
+    (44, 1, 3, 44, Err(Refusal::BrokenTfm { entry: 1 })),
     // no name, inside at the end of the bytes and outside one place later
-    (45, 0, 0, 44, 9),
-    (46, 0, 0, 44, 9),
-    (47, 0, 0, 44, 7),
+    (45, 0, 0, 44, Err(Refusal::TfmName { entry: 1 })),
+    (46, 0, 0, 44, Err(Refusal::TfmName { entry: 1 })),
+    (47, 0, 0, 44, Err(Refusal::BrokenTfm { entry: 1 })),
     // a name one byte past the end, a file so, and places that do not fit when added
-    (45, 2, 0, 44, 7),
-    (45, 1, 3, 44, 7),
-    (usize::MAX, 1, 0, 44, 7),
-    (45, usize::MAX, 0, 44, 7),
-    (45, 1, usize::MAX, 44, 7),
+    (45, 2, 0, 44, Err(Refusal::BrokenTfm { entry: 1 })),
+    (45, 1, 3, 44, Err(Refusal::BrokenTfm { entry: 1 })),
+    (usize::MAX, 1, 0, 44, Err(Refusal::BrokenTfm { entry: 1 })),
+    (45, usize::MAX, 0, 44, Err(Refusal::BrokenTfm { entry: 1 })),
+    (45, 1, usize::MAX, 44, Err(Refusal::BrokenTfm { entry: 1 })),
 ];
 
 #[test]
 fn entries_are_judged_by_range_name_and_file(rt: HostRuntime) {
-    for (name_place, name_length, file_place, file_length, number) in SECOND.iter() {
+    for (name_place, name_length, file_place, file_length, expected) in SECOND.iter() {
         let second = Entry {
             name_place: *name_place,
             name_length: *name_length,
             file_place: *file_place,
             file_length: *file_length,
         };
-        let entry_number = if *number == 0 { 0 } else { 1 };
         assert_eq!(rt;
             outcome(&SAMPLE, &[entry(), second], rt.alloc()),
-            (*number, entry_number)
+            expected.map_err(NotMade::Refused)
         );
     }
 }
@@ -144,7 +156,7 @@ fn names_and_sizes_have_limits(rt: HostRuntime) -> Result<(), Fail> {
             }],
             rt.alloc(),
         ),
-        (0, 0)
+        Ok(())
     );
     assert_eq!(rt;
         outcome(
@@ -155,13 +167,16 @@ fn names_and_sizes_have_limits(rt: HostRuntime) -> Result<(), Fail> {
             }],
             rt.alloc(),
         ),
-        (9, 0)
+        Err(NotMade::Refused(Refusal::TfmName { entry: 0 }))
     );
-    assert_eq!(rt; outcome(&SAMPLE, &[entry(); 33], rt.alloc()), (8, 0));
-    assert_eq!(rt; outcome(&SAMPLE, &[entry(); 32], rt.alloc()), (9, 1));
+    assert_eq!(rt; outcome(&SAMPLE, &[entry(); 33], rt.alloc()), Err(FULL));
+    assert_eq!(rt;
+        outcome(&SAMPLE, &[entry(); 32], rt.alloc()),
+        Err(NotMade::Refused(Refusal::TfmName { entry: 1 }))
+    );
     let full = vec![in rt.alloc(); 0u8; 1_048_576]?;
-    assert_eq!(rt; outcome(full.as_slice(), &[], rt.alloc()), (0, 0));
+    assert_eq!(rt; outcome(full.as_slice(), &[], rt.alloc()), Ok(()));
     let over = vec![in rt.alloc(); 0u8; 1_048_577]?;
-    assert_eq!(rt; outcome(over.as_slice(), &[entry()], rt.alloc()), (8, 0));
+    assert_eq!(rt; outcome(over.as_slice(), &[entry()], rt.alloc()), Err(FULL));
     Ok(())
 }

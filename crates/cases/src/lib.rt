@@ -11,7 +11,7 @@ mod entries;
 mod sample;
 
 // The worked values of docs/FORMATS.md and docs/REFUSALS.md follow from the definitions that the contracts cite.
+#[tactic(auto, unfolding(numbers::specs::FixWords::scaled, numbers::specs::FixWords::halvings))]
 pub fn worked_values()
     ensures { WorkedValues }
-{
-}
+{}

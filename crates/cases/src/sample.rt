@@ -20,11 +20,7 @@ pub fn entry() -> Entry {
     }
 }
 
-// What comes of making a shelf: the number and the entry of a refusal, 0 and 0 for a shelf.
-pub fn outcome(bytes: &[u8], entries: &[Entry], heap: Global) -> (u8, usize) {
-    match TfmShelf::new(bytes, entries, heap) {
-        Ok(_) => (0, 0),
-        Err(NotMade::Refused(refusal)) => (refusal.number(), refusal.value().unwrap_or(0)),
-        Err(NotMade::NoMemory) => (99, 0),
-    }
+// What comes of making a shelf.
+pub fn outcome(bytes: &[u8], entries: &[Entry], heap: Global) -> Result<(), NotMade> {
+    TfmShelf::new(bytes, entries, heap).map(|_| ())
 }

@@ -1,8 +1,7 @@
 -- The pages of the file, from the last one back. Assumes nothing.
-use Rattle.std.proofs.Common.{◌≡◌, ℕ, zero, suc, ◌+◌, ◌^◌, ◌<◌, ◌≤◌, true, ltb, leb, List, [], ◌∷◌, ◌++◌, length, get_or, drop, Some, None, refl, ap, ◌∙◌, subst, append_assoc, arith}
+use Rattle.std.proofs.Common.{◌≡◌, ℕ, zero, suc, ◌+◌, ◌^◌, ◌<◌, ◌≤◌, true, List, [], ◌∷◌, ◌++◌, length, get_or, drop, Some, None, refl, ap, ◌∙◌, append_assoc, arith}
 use Rattle.std.specs.List.{AllByRecursion, slice_get}
 use Rattle.std.proofs.lemmas.List.{drop_at}
-use Rattle.std.proofs.lemmas.Bool.{lt-ltb, le-leb, eq-eqb, and_from}
 use Rattle.numbers.specs.Bytes.{digits}
 use Rattle.shelf.specs.Meaning.{Meaning, Facts}
 use Rattle.copies.specs.Marks.{marks_bytes}
@@ -27,19 +26,14 @@ module _ (F : ℕ → Facts) where
   pub last_fits : (ps : List Page) → (progress F ps).used < 2 ^ 32 → (progress F ps).last < 2 ^ 32
   unfolding progress with_page
   last_fits [] h = omega arith
-  last_fits (p ∷ ps) h = omega (arith, h, used-more ps p)
-    where
-      used-more : (qs : List Page) (x : Page) → (progress F qs).used ≤ (with_page F (progress F qs) x).used
-      used-more qs x = omega (arith, page-used F (progress F qs) x)
+  last_fits (p ∷ ps) h = omega (arith, h, page-used F (progress F ps) p)
 
   module _ (mag : ℕ) (s : List ℕ) where
     -- the newest page stands behind the others
     pub page_stands : (p : Page) (ps : List Page) (rest : List ℕ) → AllByRecursion Counted ps → s ≡ body F mag (p ∷ ps) ++ rest
         → (s ≡ body F mag ps ++ (page_bytes F (progress F ps) p ++ rest)) × (drop (progress F ps).used s ≡ page_bytes F (progress F ps) p ++ rest)
     unfolding body
-    page_stands p ps rest counted e =
-        let k = e ∙ append_assoc (body F mag ps) (page_bytes F (progress F ps) p) rest in
-        (k, ap (drop (progress F ps).used) k ∙ drop_at (body F mag ps) _ (progress F ps).used (length-body F mag ps counted))
+    page_stands p ps rest counted e = grind (arith, append_assoc, drop_at, length-body)
 
     no_comment : (ps : List Page) (rest : List ℕ) → s ≡ body F mag ps ++ rest → past_comment s ≡ 15
     unfolding front_bytes
@@ -62,7 +56,7 @@ module _ (F : ℕ → Facts) where
     page-counts = taken s (at + 1) p.counts _ from-counts 40 forty
 
     pub page_pointer : g.last < 2 ^ 32 → four s (at + 41) ≡ g.last
-    page_pointer h = four_is s (at + 41) g.last _ (behind s (at + 1) p.counts _ from-counts 40 (at + 41) forty (omega arith)) h
+    page_pointer h = grind (arith, four_is, behind, from-counts)
 
   last-is : (p : Page) (ps : List Page) → (progress F (p ∷ ps)).last ≡ (progress F ps).used
   unfolding progress with_page
@@ -95,9 +89,7 @@ module _ (F : ℕ → Facts) where
         let least = used-least F ps in
         let comment = no_comment mag s ps (page_bytes F (progress F ps) p ++ rest) next.0 in
         let ok : leads s q limit a ≡ true =
-        and_from (leb (past_comment s) a) _ (le-leb (past_comment s) a (omega arith))
-        (and_from (leb (a + 45) q) _ (le-leb (a + 45) q (omega arith))
-        (and_from (ltb a limit) _ (lt-ltb a limit (omega arith)) (eq-eqb (get_or s a 0) 139 (page-first s a (progress F ps) p rest counted.0 next.1)))) in
+        let first = page-first s a (progress F ps) p rest counted.0 next.1 in grind arith in
         chain-on (length ps) limit place a (at ∙ last-is p ps) ok
         ∙ chain_whole ps (page_bytes F (progress F ps) p ++ rest) a (a + 41) counted.1 next.0 (omega arith) (omega arith) (omega arith)
         (page_pointer s a (progress F ps) p rest counted.0 next.1 (last_fits ps (omega arith)))
@@ -114,7 +106,7 @@ module _ (F : ℕ → Facts) where
     -- the page that has j newer ones
     pub page-back : (ps : List Page) (rest : List ℕ) (j : ℕ) → AllByRecursion Counted ps → s ≡ body F mag ps ++ rest → j < length ps → (progress F ps).used < 2 ^ 32 → page_before s j (progress F ps).last ≡ (progress F (drop (suc j) ps)).used
     page-back [] rest j counted e h small = absurd (omega arith)
-    page-back (p ∷ ps) rest zero counted e h small = ap (page_before s 0) (last-is p ps) ∙ back_none (progress F ps).used
+    page-back (p ∷ ps) rest zero counted e h small = grind (arith, last-is, back_none)
     page-back (p ∷ ps) rest (suc j) counted e h small =
         let a = (progress F ps).used in
         let next = page_stands mag s p ps rest counted.1 e in
@@ -134,9 +126,7 @@ module _ (F : ℕ → Facts) where
   pub older_pairs : (m : Meaning) (ps : List Page) (j : ℕ) (p : Page) → AllByRecursion (GoodPage m) ps → slice_get ps j ≡ Some p → Grown (GoodPair m) (with_page F (progress F (drop (suc j) ps)) p).pairs (progress F ps).pairs
   unfolding progress
   older_pairs m [] j p good has = cc
-  older_pairs m (x ∷ ps) zero p good has =
-      let same : x ≡ p = cc in
-      subst (λ y. Grown (GoodPair m) (with_page F (progress F ps) y).pairs (with_page F (progress F ps) x).pairs) same (grown_none (GoodPair m) (with_page F (progress F ps) x).pairs)
+  older_pairs m (x ∷ ps) zero p good has = grind (arith, grown_none)
   older_pairs m (x ∷ ps) (suc j) p good has =
       grown_more (GoodPair m) (with_page F (progress F (drop (suc j) ps)) p).pairs (progress F ps).pairs (with_page F (progress F ps) x).pairs
       (older_pairs m ps j p good.1 has) (page-pairs F m (progress F ps) x good.0)

@@ -1,18 +1,17 @@
 -- The definitions at the end of the file, walked over. Assumes nothing.
-use Rattle.std.proofs.Common.{◌≡◌, ℕ, zero, suc, ◌+◌, ◌-◌, ◌/◌, ◌<◌, ◌≤◌, Bool, true, false, ◌&&◌, eqb, ltb, List, [], ◌∷◌, ◌++◌, length, get_or, drop, Some, None, sym, refl, ap, ◌∙◌, subst, ap₂, arith, length-drop}
+use Rattle.std.proofs.Common.{◌≡◌, ℕ, zero, suc, ◌+◌, ◌-◌, ◌/◌, ◌<◌, ◌≤◌, Bool, true, false, eqb, List, [], ◌∷◌, ◌++◌, length, get_or, drop, Some, None, sym, ap, ◌∙◌, ap₂, arith, length-drop}
 use Rattle.std.specs.List.{AllByRecursion, slice_get}
-use Rattle.std.proofs.lemmas.Bool.{lt-ltb, eq-eqb, ne_eqb, and_from, or_from}
+use Rattle.std.proofs.lemmas.Bool.{eq-eqb, ne_eqb}
 use Rattle.numbers.specs.Lengths.{good_size}
 use Rattle.shelf.specs.Laws.{Lawful}
 use Rattle.shelf.specs.Meaning.{Meaning, Facts}
 use Rattle.shelf.specs.Names.{good_name}
-use Rattle.commands.specs.Definitions.{definition_at}
 use Rattle.copies.specs.declared.pairs.Pair.{Pair}
 use Rattle.copies.specs.Marks.{faces_of, define_bytes}
 use Rattle.copies.specs.Files.{fonts_bytes}
 use Rattle.document.specs.Fonts.{wide, defined_at, entry_of, entry_at, member, first_of, fair, unlawful, has_number, defines, defined_in}
 use Rattle.document.proofs.Walks.{turn, hit, miss}
-use Rattle.readback.proofs.Stands.{behind, inside, head_at}
+use Rattle.readback.proofs.Stands.{behind, head_at}
 use Rattle.readback.proofs.Commands.{Fields, defined_by, length_define, definition-at}
 use Rattle.readback.proofs.Pairs.{GoodPair}
 use Rattle.readback.proofs.Marks.{some_there, facts_are, face-name, pair_fields}
@@ -23,11 +22,9 @@ pair-fair m p law good n =
     let f = some_there (slice_get m.faces p.face) good.1 in
     let facts = (law.good-faces p.face f.0 f.1).good-facts in
     let name = face-name m p.face f.0 law f.1 in
-    let d = f.0.facts.design / 16 in
-    let size : good_size d ≡ true = and_from (ltb 0 d) (ltb d 134217728) (lt-ltb 0 d (omega (arith, facts.design-least))) (lt-ltb d 134217728 (omega (arith, facts.design-most))) in
-    let named : good_name f.0.facts.name ≡ true = and_from (ltb 0 (length f.0.facts.name)) (ltb (length f.0.facts.name) 64) (lt-ltb 0 (length f.0.facts.name) name.0) (lt-ltb (length f.0.facts.name) 64 name.1) in
-    subst (λ x. fair (Some (defined_by n p.size x)) ≡ true) (sym (facts_are m p.face f.0 f.1))
-    (and_from (good_size p.size) (good_size d && good_name f.0.facts.name) good.0 (and_from (good_size d) (good_name f.0.facts.name) size named))
+    let size : good_size (f.0.facts.design / 16) ≡ true = grind (arith, facts.design-least, facts.design-most) in
+    let named : good_name f.0.facts.name ≡ true = grind (arith, name) in
+    rw (facts_are m p.face f.0 f.1, good.0, size, named)
 
 -- a definition of a pair at a place
 module _ (t : List ℕ) (at n size : ℕ) (f : Facts) (rest : List ℕ) (e : drop at t ≡ define_bytes n size f ++ rest) (fields : Fields n size f) where
@@ -40,14 +37,15 @@ module _ (t : List ℕ) (at n size : ℕ) (f : Facts) (rest : List ℕ) (e : dro
 
   defined-is : defined_at t at ≡ Some (defined_by n size f)
   unfolding defined_at
-  defined-is = ap (definition_at t at) wide_is ∙ definition-at t at n size f rest e fields
+  defined-is = grind (arith, wide_is, definition-at)
 
   entry_is : entry_of 1 (Some (defined_by n size f)) ≡ entry_at t at
   unfolding entry_at
   entry_is = sym (ap₂ entry_of wide_is defined-is)
 
   inside_bytes : at < length t
-  inside_bytes = let l = length_define n size f in let i = inside t at (define_bytes n size f) rest e (omega arith) in omega arith
+  unfolding define_bytes
+  inside_bytes = (head_at t at 243 _ e).0
 
   lawful_is : (ns : List ℕ) → fair (Some (defined_by n size f)) ≡ true → member n ns ≡ false → unlawful t at ns ≡ false
   unfolding unlawful
@@ -62,7 +60,7 @@ abbrev Below : ℕ → List ℕ → Type 0
 Below n ns = (k : ℕ) → n ≤ k → member k ns ≡ false
 
 below_more : (n : ℕ) (ns : List ℕ) → Below n ns → Below (suc n) (n ∷ ns)
-below_more n ns b k h = or_from (eqb k n) (member k ns) (ne_eqb k n (λ q. omega arith)) (b k (omega arith))
+below_more n ns b k h = let rest = b k (omega arith) in grind arith
 
 module _ (m : Meaning) (law : Lawful m) (t : List ℕ) where
   abbrev F : ℕ → Facts
@@ -71,8 +69,7 @@ module _ (m : Meaning) (law : Lawful m) (t : List ℕ) where
   -- the bytes behind the first definition
   next-fonts : (at n : ℕ) (p : Pair) (ps : List Pair) → drop at t ≡ fonts_bytes F n (p ∷ ps) → (drop at t ≡ define_bytes n p.size (F p.face) ++ fonts_bytes F (suc n) ps) × (drop (at + (16 + length (F p.face).name)) t ≡ fonts_bytes F (suc n) ps)
   unfolding fonts_bytes
-  next-fonts at n p ps e =
-      (e, behind t at (define_bytes n p.size (F p.face)) (fonts_bytes F (suc n) ps) e (16 + length (F p.face).name) _ (length_define n p.size (F p.face)) refl)
+  next-fonts at n p ps e = grind (arith, behind, length_define)
 
   no-fonts : (at n : ℕ) → drop at t ≡ fonts_bytes F n [] → length t ≤ at
   unfolding fonts_bytes
@@ -80,7 +77,7 @@ module _ (m : Meaning) (law : Lawful m) (t : List ℕ) where
 
   -- each definition is lawful
   pub all_lawful : (ps : List Pair) (at n : ℕ) (ns : List ℕ) → AllByRecursion (GoodPair m) ps → n + length ps ≤ 64 → Below n ns → drop at t ≡ fonts_bytes F n ps → first_of (unlawful t) t at (length t - at) 0 ns ≡ None
-  all_lawful [] at n ns good few new e = sym (miss (unlawful t) t (length t) at ns (no-fonts at n e))
+  all_lawful [] at n ns good few new e = grind (arith, miss, no-fonts)
   all_lawful (p ∷ ps) at n ns good few new e =
       let f = F p.face in
       let fields = pair_fields m p law good.0 n (omega arith) in

@@ -3,7 +3,7 @@ use Rattle.std.proofs.Common.{◌≡◌, ℕ, zero, suc, ◌+◌, ◌<◌, ◌�
 use lib.ListN.{length-replicate}
 use Rattle.std.specs.List.{AllByRecursion}
 use Rattle.std.proofs.lemmas.List.{drop_at, take_at, drop-take, get_or-drop, get_or-replicate}
-use Rattle.std.proofs.lemmas.Bool.{eq-eqb, ne_eqb}
+use Rattle.std.proofs.lemmas.Bool.{eq-eqb}
 use Rattle.numbers.specs.Bytes.{digits}
 use Rattle.shelf.specs.Meaning.{Facts}
 use Rattle.copies.specs.Pages.{Page, Progress, page_bytes}
@@ -34,14 +34,14 @@ length-ending q n = omega (arith, length-replicate {A = ℕ} (padding (n + 6)) 2
 -- 223s at the end are passed, and a byte that is none is not
 bare-past : (s : List ℕ) (k m : ℕ) → ((i : ℕ) → i < k → get_or s (m + i) 0 ≡ 223) → bare s (m + k) ≡ bare s m
 unfolding bare
-bare-past s zero m h = let e : m + 0 ≡ m = omega arith in rw e
+bare-past s zero m h = grind arith
 bare-past s (suc k) m h =
     let e : m + suc k ≡ suc (m + k) = omega arith in
     rw (e, eq-eqb (get_or s (m + k) 0) 223 (h k (omega arith))) (bare-past s k m (λ i l. h i (omega arith)))
 
 bare_stop : (s : List ℕ) (k m : ℕ) → m ≡ suc k → (get_or s k 0 ≡ 223 → ⊥) → bare s m ≡ m
 unfolding bare
-bare_stop s k m e h = rw (e, ne_eqb (get_or s k 0) 223 h)
+bare_stop s k m e h = grind arith
 
 module _ (F : ℕ → Facts) (o : Opening) (ps : List Page) (counted : AllByRecursion Counted ps) where
   abbrev pub g : Progress
@@ -66,16 +66,16 @@ module _ (F : ℕ → Facts) (o : Opening) (ps : List Page) (counted : AllByRecu
   file-is = refl
 
   pub at_post : drop g.used file ≡ post_bytes o g ++ (fonts ++ ending)
-  at_post = ap (drop g.used) file-is ∙ drop_at (body F o.mag ps) _ g.used (length-body F o.mag ps counted)
+  at_post = grind (arith, file-is, drop_at, length-body)
 
   pub before_post : take g.used file ≡ body F o.mag ps
-  before_post = ap (take g.used) file-is ∙ take_at (body F o.mag ps) _ g.used (length-body F o.mag ps counted)
+  before_post = grind (arith, file-is, take_at, length-body)
 
   pub at-fonts : drop (g.used + 29) file ≡ fonts ++ ending
-  at-fonts = behind file g.used (post_bytes o g) (fonts ++ ending) at_post 29 (g.used + 29) (length_post o g) refl
+  at-fonts = grind (arith, behind, at_post, length_post)
 
   pub at-ending : drop (end_of F g) file ≡ ending
-  at-ending = behind file (g.used + 29) fonts ending at-fonts (length fonts) (end_of F g) refl refl
+  at-ending = grind (arith, behind, at-fonts)
 
   pub at-number : drop (end_of F g + 1) file ≡ digits 4 g.used ++ (2 ∷ replicate filled 223)
   unfolding end_bytes
@@ -91,15 +91,14 @@ module _ (F : ℕ → Facts) (o : Opening) (ps : List Page) (counted : AllByRecu
   fill-least = omega arith
 
   pub length-file : length file ≡ end_of F g + 6 + filled
-  length-file =
-      omega (arith, ap length file-is, length-append (body F o.mag ps) (post_bytes o g ++ (fonts ++ ending)), length-body F o.mag ps counted, length-append (post_bytes o g) (fonts ++ ending), length_post o g, length-append fonts ending, length-ending g.used (g.used + length (post_bytes o g ++ fonts)))
+  length-file = grind (arith, file-is, length-append, length-body, length_post, length-ending)
 
   pub at_front : drop 0 file ≡ front_bytes o.mag ++ ((body-front F o.mag ps).0 ++ (post_bytes o g ++ (fonts ++ ending)))
-  at_front = file-is ∙ ap (λ x. x ++ (post_bytes o g ++ (fonts ++ ending))) (body-front F o.mag ps).1 ∙ append_assoc (front_bytes o.mag) (body-front F o.mag ps).0 _
+  at_front = grind (arith, file-is, body-front, append_assoc)
 
   -- the definitions are the last bytes before the 249
   pub fonts-last : drop (g.used + 29) (take (end_of F g) file) ≡ fonts
-  fonts-last = drop-take (g.used + 29) (length fonts) file ∙ ap (take (length fonts)) at-fonts ∙ take_at fonts ending (length fonts) refl
+  fonts-last = grind (arith, drop-take, at-fonts, take_at)
 
   -- without the 223s the file ends behind its 2
   pub bare-is : bare file (length file) ≡ end_of F g + 6

@@ -1,33 +1,22 @@
 -- The closed file passes each check of a legal document. Assumes nothing.
-use Rattle.std.proofs.Common.{◌≡◌, ℕ, ◌+◌, ◌-◌, ◌^◌, ◌<◌, ◌≤◌, eqb, leb, List, [], ◌∷◌, ◌++◌, length, get_or, take, drop, None, Ok, Result, refl, ap, ◌∙◌, arith}
-use Rattle.std.specs.Result.{result_and}
-use Rattle.std.proofs.lemmas.Bool.{le-leb, eq-eqb, and_from, cond-true}
+use Rattle.std.proofs.Common.{◌≡◌, ℕ, ◌+◌, ◌-◌, ◌^◌, ◌<◌, ◌≤◌, List, [], ◌∷◌, ◌++◌, length, get_or, take, drop, None, Ok, refl, ap, ◌∙◌, arith}
+use Rattle.std.proofs.lemmas.Bool.{le-leb, eq-eqb}
 use Rattle.numbers.specs.Bytes.{digits}
-use Rattle.shelf.specs.declared.refusals.Refusal.{Refusal}
-use Rattle.shelf.specs.declared.refusals.Refusal.TheVariants.{BrokenPages, BrokenPostamble}
 use Rattle.shelf.specs.Laws.{Lawful}
 use Rattle.shelf.specs.Meaning.{Meaning, Facts}
 use Rattle.copies.specs.Marks.{faces_of}
 use Rattle.copies.specs.Pages.{Page, Progress}
 use Rattle.copies.specs.Files.{Opening, front_bytes, post_bytes, end_bytes, progress, closed}
-use Rattle.document.specs.declared.documents.Document.{Document}
 use Rattle.document.specs.Bytes.{four, two}
 use Rattle.document.specs.Fonts.{first_unlawful}
-use Rattle.document.specs.Legal.{sized, started, units_before, ended, units_behind, stated, placed, judged_by, legal}
-use Rattle.document.specs.Pages.{past_comment, broken_from, broken_pointer}
+use Rattle.document.specs.Legal.{sized, started, units_before, ended, units_behind, stated, legal}
+use Rattle.document.specs.Pages.{past_comment, broken_pointer}
 use Rattle.readback.proofs.Stands.{behind, read_at, number-at}
 use Rattle.readback.proofs.Pages.{used-least, page-count, progress-pairs}
 use Rattle.closedfiles.specs.Closed.{Writable, end_of, statement}
 use Rattle.closedfiles.proofs.Laid.{fonts, ending, filled, file-is, at_post, at-ending, at-number, at_id, fill-least, length-file, at_front, fonts-last, bare-is}
 use Rattle.closedfiles.proofs.Fonts.{all_lawful}
 use Rattle.closedfiles.proofs.Chain.{four_is, last_fits, chain_whole}
-
--- where no check fails, the last word stands
-passes : (a b c d e f h : Result (Unit {0}) Refusal) (r : Result Document Refusal) → a ≡ Ok tt → b ≡ Ok tt → c ≡ Ok tt → d ≡ Ok tt → e ≡ Ok tt → f ≡ Ok tt → h ≡ Ok tt → result_and a (result_and b (result_and c (result_and d (result_and e (result_and f (result_and h r)))))) ≡ r
-passes a b c d e f h r p₁ p₂ p₃ p₄ p₅ p₆ p₇ = rw (p₁, p₂, p₃, p₄, p₅, p₆, p₇)
-
-same_document : (a a' b b' c c' p p' e e' l l' t t' : ℕ) → a ≡ a' → b ≡ b' → c ≡ c' → p ≡ p' → e ≡ e' → l ≡ l' → t ≡ t' → ◌≡◌ {A = Document} (record { mag = a; l = b; u = c; post = p; end = e; last = l; pages = t }) (record { mag = a'; l = b'; u = c'; post = p'; end = e'; last = l'; pages = t' })
-same_document a a' b b' c c' p p' e e' l l' t t' p₁ p₂ p₃ p₄ p₅ p₆ p₇ = cc
 
 two_is : (s : List ℕ) (at n : ℕ) (rest : List ℕ) → drop at s ≡ digits 2 n ++ rest → n < 2 ^ 16 → two s at ≡ n
 unfolding two
@@ -58,7 +47,7 @@ module _ (m : Meaning) (law : Lawful m) (o : Opening) (ps : List Page) (w : Writ
   -- the front
   front_byte : (i : ℕ) → i < 15 → get_or s i 0 ≡ get_or (front_bytes o.mag) i 0
   unfolding front_bytes
-  front_byte i h = read_at s 0 (front_bytes o.mag) _ (at_front F o ps w.counted) i i h (omega arith)
+  front_byte i h = grind (arith, read_at, at_front)
 
   mag-small : o.mag < 2 ^ 32
   mag-small = omega (arith, w.mag-most)
@@ -85,7 +74,7 @@ module _ (m : Meaning) (law : Lawful m) (o : Opening) (ps : List Page) (w : Writ
   from_last = behind s now.used (248 ∷ []) _ (at_post F o ps w.counted) 1 (now.used + 1) refl refl
 
   field : (k n place : ℕ) (before rest : List ℕ) → drop (now.used + 1) s ≡ before ++ (digits 4 n ++ rest) → length before ≡ k → place ≡ now.used + 1 + k → n < 2 ^ 32 → four s place ≡ n
-  field k n place before rest e l p h = four_is s place n rest (behind s (now.used + 1) before (digits 4 n ++ rest) e k place l p) h
+  field k n place before rest e l p h = grind (arith, four_is, behind)
 
   pub last-is : four s (now.used + 1) ≡ now.last
   last-is = four_is s (now.used + 1) now.last _ from_last (last_fits F ps small)
@@ -115,16 +104,14 @@ module _ (m : Meaning) (law : Lawful m) (o : Opening) (ps : List Page) (w : Writ
 
   -- the checks, in their order
   size-passes : sized s ≡ Ok tt
-  size-passes =
-      let least = used-least F ps in
-      cond-true _ _ _ (and_from (leb 54 (length s)) _ (le-leb 54 (length s) (omega (arith, long, fill))) (le-leb (length s) 16777216 w.short))
+  size-passes = grind (arith, used-least, le-leb, long, fill)
 
   start-passes : started s ≡ Ok tt
   unfolding front_bytes
-  start-passes = rw (front_byte 0 (omega arith), front_byte 1 (omega arith))
+  start-passes = grind (arith, front_byte)
 
   units_pass : units_before s ≡ Ok tt
-  units_pass = rw (num_before, den_before, mag-before, le-leb 1 o.mag w.mag-least, le-leb o.mag 32768 w.mag-most)
+  units_pass = grind (arith, num_before, den_before, mag-before, le-leb)
 
   end_byte : get_or s (end + 6 - 6) 0 ≡ 249
   unfolding end_bytes
@@ -138,40 +125,23 @@ module _ (m : Meaning) (law : Lawful m) (o : Opening) (ps : List Page) (w : Writ
   post_byte = read_at s now.used (248 ∷ []) _ (at_post F o ps w.counted) 0 now.used (omega arith) (omega arith)
 
   ending-passes : ended s (end + 6) now.used ≡ Ok tt
-  ending-passes =
-      let least = used-least F ps in
-      let past = past_comment_lem in
-      cond-true _ _ _
-      (and_from (leb (end + 6 + 4) (length s)) _ (le-leb (end + 6 + 4) (length s) (omega (arith, long, fill)))
-      (and_from (leb 6 (end + 6)) _ (le-leb 6 (end + 6) (omega arith))
-      (and_from (eqb (get_or s (end + 6 - 1) 0) 2) _ (eq-eqb (get_or s (end + 6 - 1) 0) 2 id_byte)
-      (and_from (eqb (get_or s (end + 6 - 6) 0) 249) _ (eq-eqb (get_or s (end + 6 - 6) 0) 249 end_byte)
-      (and_from (leb (past_comment s) now.used) _ (le-leb (past_comment s) now.used (omega (arith, past, least)))
-      (and_from (leb (now.used + 29) (end + 6 - 6)) _ (le-leb (now.used + 29) (end + 6 - 6) (omega arith))
-      (eq-eqb (get_or s now.used 0) 248 post_byte)))))))
+  ending-passes = grind (arith, used-least, past_comment_lem, le-leb, long, fill, id_byte, end_byte, post_byte)
 
   behind-passes : units_behind s now.used ≡ Ok tt
   behind-passes = rw (num_behind, den_behind, mag-behind, mag-before, eq-eqb o.mag o.mag refl)
 
   before-end : take (end + 6 - 6) s ≡ take end s
-  before-end = let e : end + 6 - 6 ≡ end = omega arith in ap (λ k. take k s) e
+  before-end = grind arith
 
   fonts_pass : first_unlawful (take (end + 6 - 6) s) (now.used + 29) ≡ None
   unfolding first_unlawful
-  fonts_pass =
-      ap (λ t. first_unlawful t (now.used + 29)) before-end
-      ∙ all_lawful m law (take end s) now.pairs (now.used + 29) 0 [] (progress-pairs F m ps w.good) (omega (arith, w.few-pairs)) (λ k h. refl) (fonts-last F o ps w.counted)
+  fonts_pass = grind (arith, before-end, all_lawful, progress-pairs, fonts-last)
 
   pages_pass : broken_pointer s now.used ≡ None
-  pages_pass =
-      ap (λ t. broken_from s now.used t now.used (now.used + 1)) pages_are
-      ∙ chain_whole F o.mag s now.used ps _ now.used (now.used + 1) w.counted (file-is F o ps w.counted) (omega arith) (omega arith) small last-is
+  pages_pass = grind (arith, pages_are, chain_whole, file-is, small, last-is)
 
   stated-is : stated s now.used (end + 6 - 6) ≡ statement F o ps
-  stated-is =
-      let e : end + 6 - 6 ≡ end = omega arith in
-      same_document (four s 10) o.mag (four s (now.used + 17)) o.l (four s (now.used + 21)) o.u now.used now.used (end + 6 - 6) end (four s (now.used + 1)) now.last (two s (now.used + 27)) (length ps)
-      mag-before l-is u-is refl e last-is pages_are
+  stated-is = grind (arith, mag-before, l-is, u-is, last-is, pages_are)
 
   post_place : four s (end + 6 - 5) ≡ now.used
   post_place =
@@ -180,9 +150,4 @@ module _ (m : Meaning) (law : Lawful m) (o : Opening) (ps : List Page) (w : Writ
 
   pub closed-legal : legal s ≡ Ok (statement F o ps)
   unfolding legal
-  closed-legal =
-      ap (λ k. judged_by s k (four s (k - 5))) (bare-is F o ps w.counted)
-      ∙ ap (judged_by s (end + 6)) post_place
-      ∙ passes (sized s) (started s) (units_before s) (ended s (end + 6) now.used) (units_behind s now.used) (placed BrokenPostamble (first_unlawful (take (end + 6 - 6) s) (now.used + 29))) (placed BrokenPages (broken_pointer s now.used)) (Ok (stated s now.used (end + 6 - 6)))
-      size-passes start-passes units_pass ending-passes behind-passes (ap (placed BrokenPostamble) fonts_pass) (ap (placed BrokenPages) pages_pass)
-      ∙ ap Ok stated-is
+  closed-legal = rw (bare-is F o ps w.counted, post_place, size-passes, start-passes, units_pass, ending-passes, behind-passes, fonts_pass, pages_pass, stated-is)

@@ -1,5 +1,6 @@
 -- The bytes that a copy writes for marks: each is its move from the mark before, and then a rule or a glyph.
 use Rattle.std.specs.Prelude.{ℕ, ◌+◌, ◌/◌, Bool, false, cond, List, [], ◌∷◌, ◌++◌, length, ℤ, ◌-ℤ◌, Some, None, Option, ◌==◌, unsigned_abs}
+use Rattle.std.specs.Option.{unwrap_or}
 use Rattle.numbers.specs.Bytes.{digits, complement, signed_fits}
 use Rattle.shelf.specs.declared.marks.Mark.{Mark}
 use Rattle.shelf.specs.declared.marks.Mark.TheVariants.{Glyph, Rule}
@@ -22,8 +23,7 @@ define_bytes n size f =
 
 -- what is told of a face; no shelf has a mark of a face that it lacks
 abbrev pub facts_or : Option Facts → Facts
-facts_or (Some f) = f
-facts_or None = record { name = []; checksum = 0; design = 0 }
+facts_or f = unwrap_or f (record { name = []; checksum = 0; design = 0 })
 
 abbrev pub faces_of : Meaning → ℕ → Facts
 faces_of m k = facts_or (told_of m k)

@@ -1,5 +1,6 @@
 -- The pairs of a copy: a face at a size, numbered from 0 by first use, each with the place of its definition.
 use Rattle.std.specs.Prelude.{ℕ, Bool, ◌&&◌, List, [], ◌∷◌, ◌++◌, length, Some, None, Option, ◌==◌}
+use Rattle.std.specs.Option.{unwrap_or}
 use Rattle.numbers.specs.Match.{first_match}
 use Rattle.copies.specs.declared.pairs.Pair.{Pair}
 
@@ -13,8 +14,7 @@ pair_by ps face size = first_match (λ p. is_pair p (face, size)) ps
 
 -- the number that a pair has, or takes where it is new
 abbrev pub numbered : List Pair → Option ℕ → ℕ
-numbered ps (Some n) = n
-numbered ps None = length ps
+numbered ps o = unwrap_or o (length ps)
 
 -- the pairs with this one, where it is new
 abbrev pub entered : List Pair → Option ℕ → Pair → List Pair

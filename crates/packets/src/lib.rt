@@ -4,8 +4,7 @@
 ghost use Rattle.packets.specs.Worked.{WorkedPackets};
 
 // The packets of docs/PACKETS.md have the outcomes stated there by the definitions that the contracts cite.
-pub fn worked_packets() -> u8
+#[tactic(auto, unfolding(numbers::specs::FixWords::scaled, numbers::specs::FixWords::halvings, commands::specs::Commands::command_at, shelf::specs::Meaning::called, machine::specs::Runs::turned, machine::specs::Runs::run, machine::specs::Steps::exec, expansion::specs::Expanding::expanded))]
+pub fn worked_packets()
     ensures { WorkedPackets }
-{
-    0
-}
+{}

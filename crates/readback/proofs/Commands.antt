@@ -1,13 +1,13 @@
 -- The commands that a copy writes, read where their bytes stand. Assumes nothing.
-use Rattle.std.proofs.Common.{◌≡◌, ℕ, zero, suc, ◌+◌, ◌-◌, ◌*◌, ◌/◌, ◌%◌, ◌^◌, ◌<◌, true, leb, List, [], ◌∷◌, ◌++◌, length, take, drop, ℤ, pos, Some, Option, sym, refl, ap, ◌∙◌, ap₂, arith}
+use Rattle.std.proofs.Common.{◌≡◌, ℕ, ◌+◌, ◌*◌, ◌/◌, ◌%◌, ◌^◌, ◌<◌, true, List, [], ◌∷◌, ◌++◌, length, drop, ℤ, pos, Some, refl, ap, ◌∙◌, ap₂, arith}
 use Rattle.std.specs.Option.{option_map}
-use Rattle.std.proofs.lemmas.Bool.{lt-ltb, le-ltb, le-leb, and_from, cond-true}
-use Rattle.numbers.specs.Bytes.{is_width, digits, complement, signed_fits, signed_at, number}
+use Rattle.std.proofs.lemmas.Bool.{lt-ltb, le-ltb, le-leb, cond-true}
+use Rattle.numbers.specs.Bytes.{is_width, digits, complement, signed_fits, signed_at}
 use Rattle.shelf.specs.Meaning.{Facts}
 use Rattle.commands.specs.declared.kinds.Kind.TheVariants as K
 use Rattle.commands.specs.Kinds.{kind_of}
 use Rattle.commands.specs.Definitions.{Defined, name_length, definition_at}
-use Rattle.commands.specs.Commands.{put, put_rule, eop, right, down, fnt, fnt_def, read_by, sides, command_at}
+use Rattle.commands.specs.Commands.{Cmd, put, put_rule, eop, right, down, fnt, fnt_def, read_by, sides, command_at}
 use Rattle.copies.specs.Marks.{define_bytes}
 use Rattle.readback.proofs.Stands.{behind, inside, read_at, taken, head_at, number-at, number_at-is, signed_at-is}
 
@@ -19,50 +19,32 @@ command_by s at b rest e =
     cond-true _ _ _ (lt-ltb at (length s) h.0) ∙ ap (λ x. read_by (kind_of x) s at) h.1
 
 kind_right : (w : ℕ) → 0 < w → w < 5 → kind_of (142 + w) ≡ (K.Right, w)
-kind_right zero p q = absurd (omega arith)
-kind_right (suc zero) p q = refl
-kind_right (suc (suc zero)) p q = refl
-kind_right (suc (suc (suc zero))) p q = refl
-kind_right (suc (suc (suc (suc zero)))) p q = refl
-kind_right (suc (suc (suc (suc (suc w))))) p q = absurd (omega arith)
+kind_right w p q = grind (arith, le-ltb, lt-ltb)
 
 kind_down : (w : ℕ) → 0 < w → w < 5 → kind_of (156 + w) ≡ (K.Down, w)
-kind_down zero p q = absurd (omega arith)
-kind_down (suc zero) p q = refl
-kind_down (suc (suc zero)) p q = refl
-kind_down (suc (suc (suc zero))) p q = refl
-kind_down (suc (suc (suc (suc zero)))) p q = refl
-kind_down (suc (suc (suc (suc (suc w))))) p q = absurd (omega arith)
+kind_down w p q = grind (arith, le-ltb, lt-ltb)
 
 width_is : (w : ℕ) → 0 < w → w < 5 → is_width w ≡ true
-width_is w p q = and_from (leb 1 w) (leb w 4) (le-leb 1 w (omega arith)) (le-leb w 4 (omega arith))
+width_is w p q = grind arith
 
--- past the bounds up to 171
 kind_select : (n : ℕ) → n < 64 → kind_of (171 + n) ≡ (K.FntNum, 0)
-kind_select n h =
-    let b = 171 + n in
-    rw (le-ltb (171 + n) 128 (omega arith), le-ltb (171 + n) 132 (omega arith), le-ltb (171 + n) 133 (omega arith), le-ltb (171 + n) 137 (omega arith), le-ltb (171 + n) 138 (omega arith), le-ltb (171 + n) 139 (omega arith), le-ltb (171 + n) 140 (omega arith), le-ltb (171 + n) 141 (omega arith), le-ltb (171 + n) 142 (omega arith), le-ltb (171 + n) 143 (omega arith), le-ltb (171 + n) 147 (omega arith), le-ltb (171 + n) 148 (omega arith), le-ltb (171 + n) 152 (omega arith), le-ltb (171 + n) 153 (omega arith), le-ltb (171 + n) 157 (omega arith), le-ltb (171 + n) 161 (omega arith), le-ltb (171 + n) 162 (omega arith), le-ltb (171 + n) 166 (omega arith), le-ltb (171 + n) 167 (omega arith), le-ltb (171 + n) 171 (omega arith), lt-ltb (171 + n) 235 (omega arith))
+kind_select n h = grind (arith, le-ltb, lt-ltb)
 
 module _ (s : List ℕ) (at : ℕ) (rest : List ℕ) where
-  -- a length of w bytes behind the command's byte
-  length-behind : (b w : ℕ) (z : ℤ) → drop at s ≡ b ∷ (digits w (complement w z) ++ rest) → 0 < w → w < 5 → signed_fits w z ≡ true → signed_at s (at + 1) w ≡ Some z
-  length-behind b w z e p q f =
-      signed_at-is s (at + 1) w z rest (behind s at (b ∷ []) _ e 1 (at + 1) refl refl) (width_is w p q) p f
+  -- a command with a length of w bytes behind its byte
+  length-at : (b w : ℕ) (z : ℤ) (cmd : ℤ → Cmd) → read_by (kind_of b) s at ≡ option_map (λ l. (cmd l, 1 + w)) (signed_at s (at + 1) w) → drop at s ≡ b ∷ (digits w (complement w z) ++ rest) → 0 < w → w < 5 → signed_fits w z ≡ true → command_at s at ≡ Some (cmd z, 1 + w)
+  length-at b w z cmd read e p q f =
+      command_by s at b _ e ∙ read
+      ∙ ap (option_map (λ l. (cmd l, 1 + w))) (signed_at-is s (at + 1) w z rest (behind s at (b ∷ []) _ e 1 (at + 1) refl refl) (width_is w p q) p f)
 
   pub right-at : (w : ℕ) (z : ℤ) → drop at s ≡ (142 + w) ∷ (digits w (complement w z) ++ rest) → 0 < w → w < 5 → signed_fits w z ≡ true → command_at s at ≡ Some (right z, 1 + w)
-  right-at w z e p q f =
-      command_by s at (142 + w) _ e ∙ ap (λ k. read_by k s at) (kind_right w p q)
-      ∙ ap (option_map (λ b. (right b, 1 + w))) (length-behind (142 + w) w z e p q f)
+  right-at w z e p q f = length-at (142 + w) w z right (ap (λ k. read_by k s at) (kind_right w p q)) e p q f
 
   pub down-at : (w : ℕ) (z : ℤ) → drop at s ≡ (156 + w) ∷ (digits w (complement w z) ++ rest) → 0 < w → w < 5 → signed_fits w z ≡ true → command_at s at ≡ Some (down z, 1 + w)
-  down-at w z e p q f =
-      command_by s at (156 + w) _ e ∙ ap (λ k. read_by k s at) (kind_down w p q)
-      ∙ ap (option_map (λ b. (down b, 1 + w))) (length-behind (156 + w) w z e p q f)
+  down-at w z e p q f = length-at (156 + w) w z down (ap (λ k. read_by k s at) (kind_down w p q)) e p q f
 
   pub select_at : (n : ℕ) → drop at s ≡ (171 + n) ∷ rest → n < 64 → command_at s at ≡ Some (fnt n, 1)
-  select_at n e h =
-      command_by s at (171 + n) _ e ∙ ap (λ k. read_by k s at) (kind_select n h)
-      ∙ ap (λ b. Some (fnt (b - 171), 1)) (head_at s at (171 + n) _ e).1 ∙ ap (λ k. Some (fnt k, 1)) (omega arith)
+  select_at n e h = grind (arith, command_by, kind_select, head_at)
 
   pub put-at : (c : ℕ) → drop at s ≡ 133 ∷ (c ∷ rest) → c < 256 → command_at s at ≡ Some (put (pos c), 2)
   put-at c e h =
@@ -89,16 +71,13 @@ pub record Fields (n size : ℕ) (f : Facts) : Type 0 where
   pub design-fits : f.design / 16 < 2 ^ 32
   pub name-fits : length f.name < 256
 
-same_fields : (n n' c c' z z' d d' : ℕ) (x x' : List ℕ) → n ≡ n' → c ≡ c' → z ≡ z' → d ≡ d' → x ≡ x' → ◌≡◌ {A = Option Defined} (Some (record { number = n; checksum = c; size = z; design = d; name = x })) (Some (record { number = n'; checksum = c'; size = z'; design = d'; name = x' }))
-same_fields n n' c c' z z' d d' x x' p q r t v = cc
-
 -- what such a definition says
 abbrev pub defined_by : ℕ → ℕ → Facts → Defined
 defined_by n size f = record { number = n; checksum = f.checksum; size = size; design = f.design / 16; name = f.name }
 
 pub length_define : (n size : ℕ) (f : Facts) → length (define_bytes n size f) ≡ 16 + length f.name
 unfolding define_bytes
-length_define n size f = omega arith
+length_define n size f = grind arith
 
 module _ (s : List ℕ) (at n size : ℕ) (f : Facts) (rest : List ℕ) (e : drop at s ≡ define_bytes n size f ++ rest) (fields : Fields n size f) where
   from-number : drop (at + 1) s ≡ digits 1 n ++ (digits 4 f.checksum ++ (digits 4 size ++ (digits 4 (f.design / 16) ++ (0 ∷ (digits 1 (length f.name) ++ (f.name ++ rest))))))
@@ -131,15 +110,17 @@ module _ (s : List ℕ) (at n size : ℕ) (f : Facts) (rest : List ℕ) (e : dro
       let l = length_define n size f in
       let i = inside s at (define_bytes n size f) rest e (omega arith) in
       let k = lengths_are in
-      cond-true _ _ _ (le-leb (at + 1 + 15) (length s) (omega arith))
-      ∙ cond-true _ _ _ (le-leb (at + 1 + 15 + name_length s at 1) (length s) (omega arith))
-      ∙ same_fields (number s (at + 1) 1) n (number s (at + 1 + 1) 4) f.checksum (number s (at + 1 + 5) 4) size (number s (at + 1 + 9) 4) (f.design / 16) (take (name_length s at 1) (drop (at + 1 + 15) s)) f.name
-      (number-at s (at + 1) 1 n _ from-number fields.number_fits)
-      (number-at s (at + 1 + 1) 4 f.checksum _ from-checksum fields.checksum-fits)
-      (number-at s (at + 1 + 5) 4 size _ from-size fields.size_fits)
-      (number-at s (at + 1 + 9) 4 (f.design / 16) _ from-design fields.design-fits)
-      (taken s (at + 1 + 15) f.name rest from-name (name_length s at 1) (sym k))
+      rw (
+        number-at s (at + 1) 1 n _ from-number fields.number_fits,
+        number-at s (at + 1 + 1) 4 f.checksum _ from-checksum fields.checksum-fits,
+        number-at s (at + 1 + 5) 4 size _ from-size fields.size_fits,
+        number-at s (at + 1 + 9) 4 (f.design / 16) _ from-design fields.design-fits,
+        k,
+        taken s (at + 1 + 15) f.name rest from-name (length f.name) refl,
+        le-leb (at + 1 + 15) (length s) (omega arith),
+        le-leb (at + 1 + 15 + length f.name) (length s) (omega arith),
+      )
 
   pub define_at : command_at s at ≡ Some (fnt_def (defined_by n size f), length (define_bytes n size f))
   unfolding define_bytes
-  define_at = command_by s at 243 _ e ∙ ap (option_map (λ d. (fnt_def d, 16 + length d.name))) definition-at ∙ ap (λ k. Some (fnt_def (defined_by n size f), k)) (sym (length_define n size f))
+  define_at = grind (arith, command_by, definition-at, length_define)

@@ -1,5 +1,5 @@
 -- Runs over bytes that stand somewhere: what some bytes lead to, and then the run from behind them. Assumes nothing.
-use Rattle.std.proofs.Common.{◌≡◌, ℕ, zero, suc, ◌+◌, ◌-◌, ◌<◌, true, List, [], ◌∷◌, ◌++◌, length, drop, Some, sym, refl, ap, ◌∙◌, append_assoc, append-nil, arith, length-append}
+use Rattle.std.proofs.Common.{◌≡◌, ℕ, zero, suc, ◌+◌, ◌-◌, ◌<◌, true, List, [], ◌∷◌, ◌++◌, length, drop, Some, refl, ap, ◌∙◌, append_assoc, append-nil, arith, length-append}
 use Rattle.shelf.specs.declared.marks.Mark.{Mark}
 use Rattle.shelf.specs.Outcomes.{Outcome, well, ends, prepend, bind}
 use Rattle.commands.specs.Commands.{Cmd, eop, command_at}
@@ -16,10 +16,7 @@ module _ (u : World) (s : List ℕ) where
   -- the bytes of a command that is done are passed over
   run_skip : (k at n next left : ℕ) (st : State) → next ≡ at + k → n ≡ left + k → run u s k at n st ≡ run u s 0 next left st
   unfolding run
-  run_skip zero at n next left st e f =
-      let a : at ≡ next = omega arith in
-      let b : n ≡ left = omega arith in
-      rw (a, b)
+  run_skip zero at n next left st e f = grind arith
   run_skip (suc k) at zero next left st e f = absurd (omega arith)
   run_skip (suc k) at (suc n) next left st e f = run_skip k (suc at) n next left st (omega arith) (omega arith)
 
@@ -29,7 +26,7 @@ module _ (u : World) (s : List ℕ) where
 
   run-turn : (at : ℕ) (st : State) → at < length s → run_from u s at st ≡ bind (turned u at (command_at s at) st) (onwards at)
   unfolding run onwards
-  run-turn at st h = let f : length s - at ≡ suc (length s - at - 1) = omega arith in rw f refl
+  run-turn at st h = grind arith
 
   turned-well : (at : ℕ) (st : State) (cmd : Cmd) (len : ℕ) (ms : List Mark) (x : Next) → command_at s at ≡ Some (cmd, len) → exec u cmd st ≡ ends ms (well x) → turned u at (command_at s at) st ≡ ends ms (well (len, x))
   unfolding turned
@@ -45,16 +42,10 @@ module _ (u : World) (s : List ℕ) where
       ∙ ap (prepend ms) (run_skip (length bs - 1) (suc at) (length s - at - 1) (at + length bs) (length s - (at + length bs)) st' (omega arith) (omega arith))
 
   pub nothing-leads : (st : State) → Leads u s [] st [] st
-  nothing-leads st at rest e = let z : at ≡ at + 0 = omega arith in ap (λ k. run_from u s k st) z
+  nothing-leads st at rest e = grind arith
 
   pub then_leads : (bs cs : List ℕ) (st st' st'' : State) (ms ns : List Mark) → Leads u s bs st ms st' → Leads u s cs st' ns st'' → Leads u s (bs ++ cs) st (ms ++ ns) st''
-  then_leads bs cs st st' st'' ms ns a b at rest e =
-      let e' = e ∙ append_assoc bs cs rest in
-      let l : at + length bs + length cs ≡ at + length (bs ++ cs) = omega (arith, length-append bs cs) in
-      a at (cs ++ rest) e'
-      ∙ ap (prepend ms) (b (at + length bs) rest (behind s at bs (cs ++ rest) e' (length bs) (at + length bs) refl refl))
-      ∙ ap (λ xs. ends xs (run_from u s (at + length bs + length cs) st'').ending) (sym (append_assoc ms ns _))
-      ∙ ap (λ k. prepend (ms ++ ns) (run_from u s k st'')) l
+  then_leads bs cs st st' st'' ms ns a b at rest e = grind (arith, append_assoc, length-append, behind)
 
   end_step : (st : State) → u.page ≡ true → st.frames ≡ [] → exec u eop st ≡ ends [] (well done)
   unfolding exec

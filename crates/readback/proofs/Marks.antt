@@ -1,75 +1,48 @@
 -- Marks that were written are read again: a move, a definition, a selection, a glyph and a rule, and then all of a page's. Assumes nothing.
-use Rattle.std.proofs.Common.{◌≡◌, ℕ, ◌+◌, ◌*◌, ◌^◌, ◌<◌, ◌≤◌, Bool, true, false, cond, T, eqb, ltb, List, [], ◌∷◌, ◌++◌, map, length, drop, ℤ, pos, negsuc, ◌+ℤ◌, ◌-ℤ◌, nat_abs, ◌≤ℤ◌, is_some, Some, None, Ok, Err, Option, Result, sym, refl, ap, ◌∙◌, subst, ap₂, arith}
-use lib.Signed.{le_z, le_z_yes}
-use Rattle.std.specs.Option.{option_map}
+use Rattle.std.proofs.Common.{◌≡◌, ℕ, ◌+◌, ◌<◌, ◌≤◌, Bool, true, false, cond, eqb, List, [], ◌∷◌, ◌++◌, map, length, drop, ℤ, pos, ◌-ℤ◌, nat_abs, is_some, Some, None, Ok, Err, Option, Result, sym, refl, ap, ◌∙◌, subst, arith}
 use Rattle.std.specs.List.{AllByRecursion, slice_get}
 use Rattle.std.proofs.ByRecursion.{All-get_or}
+use Rattle.std.proofs.lemmas.Option.{slice_get_within}
 use Rattle.std.proofs.lemmas.Int.{ints}
-use Rattle.std.proofs.lemmas.Bool.{eqb-true, lt-ltb, ltb-true, and_parts}
+use Rattle.std.proofs.lemmas.Bool.{eqb-true, lt-ltb}
 use Rattle.numbers.specs.Bytes.{digits, complement, signed_fits}
 use Rattle.numbers.specs.Lengths.{in_range}
-use Rattle.numbers.proofs.Digits.{length_digits}
 use Rattle.shelf.specs.declared.marks.Mark.{Mark}
 use Rattle.shelf.specs.declared.marks.Mark.TheVariants.{Glyph, Rule}
 use Rattle.shelf.specs.declared.refusals.Cause.{Cause}
 use Rattle.shelf.specs.Alone.{name_of, faces_alone}
 use Rattle.shelf.specs.Laws.{GoodMark, Lawful}
-use Rattle.shelf.specs.Meaning.{Meaning, Facts, FaceMeaning, facts_of, width_in, point_at, called}
+use Rattle.shelf.specs.Meaning.{Meaning, Facts, FaceMeaning, width_in, called}
 use Rattle.shelf.specs.Names.{GoodName}
-use Rattle.shelf.specs.Outcomes.{well, ends, bind}
+use Rattle.shelf.specs.Outcomes.{well, ends}
 use Rattle.shelf.specs.FaceLaws.{named}
 use Rattle.shelf.specs.Finding.{found_within, found_bears}
 use Rattle.commands.specs.Commands.{Cmd, put, put_rule, right, down, fnt, fnt_def, command_at}
 use Rattle.machine.specs.declared.registers.Chosen.{Chosen}
-use Rattle.machine.specs.Steps.{World, State, go, kept, side, sides, drawn, ruled, exec}
+use Rattle.machine.specs.Steps.{World, State, go, exec}
 use Rattle.machine.specs.Runs.{run_from}
 use Rattle.copies.specs.declared.pairs.Pair.{Pair}
 use Rattle.copies.specs.Pairs.{pair_by, numbered, entered}
-use Rattle.copies.specs.Marks.{move_width, move_bytes, define_bytes, facts_or, faces_of, Pen, mark_h, mark_v, moved_to, is_last, selecting, font_bytes, shape_bytes, mark_bytes, pen_after, marks_bytes, pen_after_all}
+use Rattle.copies.specs.Marks.{move_width, move_bytes, define_bytes, faces_of, Pen, mark_h, mark_v, moved_to, is_last, selecting, font_bytes, shape_bytes, mark_bytes, pen_after, marks_bytes, pen_after_all}
 use Rattle.readback.specs.Reading.{Selects, placed}
 use Rattle.readback.proofs.Commands.{Fields, defined_by, right-at, down-at, select_at, put-at, rule_at, define_at, length_define}
 use Rattle.readback.proofs.Leading.{Leads, command_leads, nothing-leads, then_leads, end-leads}
-use Rattle.readback.proofs.Pairs.{GoodPair, face-is_there, pair-numbered, alike_font, nth_within, grown_keeps, marks-pairs}
+use Rattle.readback.proofs.Pairs.{GoodPair, face-is_there, pair-numbered, alike_font, grown_keeps, marks-pairs}
 
 pub some_there : {X : Type 0} (o : Option X) → is_some o ≡ true → (x : X) × (o ≡ Some x)
 some_there (Some x) e = (x, refl)
-some_there None e = absurd (let z : ◌≡◌ {A = ℕ} 0 1 = cc in omega arith)
+some_there None e = cc
 
 -- the width of a move
 fits_width : (z : ℤ) → signed_fits 4 z ≡ true → (0 < move_width z) × (move_width z < 5) × (signed_fits (move_width z) z ≡ true)
-fits_width z four = by (signed_fits 1 z) (signed_fits 2 z) (signed_fits 3 z) refl refl refl
-  where
-    picked : Bool → Bool → Bool → ℕ
-    picked a b c = cond a 1 (cond b 2 (cond c 3 4))
-
-    by : (a b c : Bool) → signed_fits 1 z ≡ a → signed_fits 2 z ≡ b → signed_fits 3 z ≡ c → (0 < picked a b c) × (picked a b c < 5) × (signed_fits (picked a b c) z ≡ true)
-    by true b c p q r = (omega arith, omega arith, p)
-    by false true c p q r = (omega arith, omega arith, q)
-    by false false true p q r = (omega arith, omega arith, r)
-    by false false false p q r = (omega arith, omega arith, four)
-
-le_from : (a b : ℤ) → le_z a b ≡ true → a ≤ℤ b
-le_from a b e = le_z_yes (subst T (sym e) tt)
-
-bounds : (z : ℤ) → in_range z ≡ true → (negsuc 1073741822 ≤ℤ z) × (z ≤ℤ pos 1073741823)
-bounds z e =
-    let both = and_parts (le_z (negsuc 1073741822) z) (le_z z (pos 1073741823)) e in
-    (le_from (negsuc 1073741822) z both.0, le_from z (pos 1073741823) both.1)
+fits_width z four = grind arith
 
 -- two positions are less than 2^31 apart
 apart_fits : (a h : ℤ) → in_range a ≡ true → in_range h ≡ true → signed_fits 4 (a -ℤ h) ≡ true
-apart_fits a h p q = by (a -ℤ h) refl
-  where
-    by : (z : ℤ) → a -ℤ h ≡ z → signed_fits 4 z ≡ true
-    by (pos n) e = lt-ltb (2 * n) (256 ^ 4) (omega (arith, ints, bounds a p, bounds h q))
-    by (negsuc n) e = lt-ltb (2 * n) (256 ^ 4) (omega (arith, ints, bounds a p, bounds h q))
+apart_fits a h p q = grind (arith, ints)
 
 no_move : (a h : ℤ) → nat_abs (a -ℤ h) ≡ 0 → h ≡ a
-no_move a h e = by (a -ℤ h) refl e
-  where
-    by : (z : ℤ) → a -ℤ h ≡ z → nat_abs z ≡ 0 → h ≡ a
-    by (pos n) p q = omega (arith, ints)
-    by (negsuc n) p q = absurd (omega arith)
+no_move a h e = omega (arith, ints)
 
 -- the font that a page's last selected number selects
 abbrev pub font_of : Result Chosen Cause → Option Chosen
@@ -87,7 +60,7 @@ pen_state u pen = placed pen.h pen.v (pen_font u pen.last)
 -- a glyph over the faces alone
 face-outcome : (m : Meaning) (face size code : ℕ) (h v w : ℤ) → GoodMark m.faces (Glyph face size code h v) → face < length (map name_of m.faces) → width_in (slice_get m.faces face) size code ≡ Some w → called (faces_alone m) face size code h v ≡ ends (Glyph face size code h v ∷ []) (well w)
 unfolding called
-face-outcome m face size code h v w good k e = rw (lt-ltb face (length (map name_of m.faces)) k, good.2, good.0, good.1, e)
+face-outcome m face size code h v w good k e = grind arith
 
 face-called : (m : Meaning) (face size code : ℕ) (h v : ℤ) → GoodMark m.faces (Glyph face size code h v) → (w : ℤ) × (called (faces_alone m) face size code h v ≡ ends (Glyph face size code h v ∷ []) (well w))
 face-called m face size code h v good =
@@ -95,14 +68,9 @@ face-called m face size code h v good =
     let w = some_there (width_in (slice_get m.faces face) size code) good.4 in
     (w.0, face-outcome m face size code h v w.0 good (named m.faces face f.0 [] f.1).0 w.1)
 
--- a rule that makes its mark
-rule_drawn : (fs : List FaceMeaning) (height width : ℕ) (h v : ℤ) → GoodMark fs (Rule height width h v) → drawn (point_at h v) (sides (side (pos height)) (side (pos width))) (pos width) ≡ ends (Rule height width h v ∷ []) (well (pos width))
-rule_drawn fs height width h v good =
-    rw (good.0, good.1, lt-ltb 0 height good.2.0, lt-ltb height 2147483648 good.2.1, lt-ltb 0 width good.2.2, lt-ltb width 2147483648 good.2.3)
-
 -- what is told of a face that is there
 pub facts_are : (m : Meaning) (k : ℕ) (f : FaceMeaning) → slice_get m.faces k ≡ Some f → faces_of m k ≡ f.facts
-facts_are m k f e = ap (λ o. facts_or (option_map facts_of o)) e
+facts_are m k f e = rw e
 
 pub face-name : (m : Meaning) (k : ℕ) (f : FaceMeaning) → Lawful m → slice_get m.faces k ≡ Some f → GoodName f.facts.name
 face-name m k f law e =
@@ -116,7 +84,7 @@ pair_fields m p law good n few =
     let f = some_there (slice_get m.faces p.face) good.1 in
     let facts = (law.good-faces p.face f.0 f.1).good-facts in
     let name = face-name m p.face f.0 law f.1 in
-    let size = ltb-true p.size 134217728 (and_parts (ltb 0 p.size) (ltb p.size 134217728) good.0).1 in
+    let size : p.size < 134217728 = grind (arith, good.0) in
     subst (Fields n p.size) (sym (facts_are m p.face f.0 f.1))
     (record {
       number_fits = omega arith;
@@ -136,24 +104,20 @@ module _ (u : World) (s : List ℕ) where
       bs = (byte + move_width z) ∷ digits (move_width z) (complement (move_width z) z)
 
       long : 1 + move_width z ≡ length bs
-      long = omega (arith, length_digits (move_width z) (complement (move_width z) z))
+      long = grind arith
 
       by : (b : Bool) → eqb (nat_abs z) 0 ≡ b → Leads u s (cond b [] bs) st [] st'
-      by true e = subst (Leads u s [] st []) (same (eqb-true (nat_abs z) 0 e)) (nothing-leads u s st)
+      by true e = grind arith
       by false e = command_leads u s bs st cmd [] st' (omega (arith, long)) (λ at rest p. reads at rest p ∙ ap (λ k. Some (cmd, k)) long) steps
 
   module _ (m : Meaning) (ps : List Pair) (on : Selects u m ps) where
     right-step : (h v a : ℤ) (o : Option Chosen) → in_range a ≡ true → exec u (right (a -ℤ h)) (placed h v o) ≡ ends [] (well (go (placed a v o)))
     unfolding exec
-    right-step h v a o r =
-        let e : h +ℤ (a -ℤ h) ≡ a = omega (arith, ints) in
-        rw (on.plain (a -ℤ h), e, r)
+    right-step h v a o r = grind arith
 
     down_step : (h v a : ℤ) (o : Option Chosen) → in_range a ≡ true → exec u (down (a -ℤ v)) (placed h v o) ≡ ends [] (well (go (placed h a o)))
     unfolding exec
-    down_step h v a o r =
-        let e : v +ℤ (a -ℤ v) ≡ a = omega (arith, ints) in
-        rw (on.plain (a -ℤ v), e, r)
+    down_step h v a o r = grind arith
 
     right-leads : (h v a : ℤ) (o : Option Chosen) → in_range h ≡ true → in_range a ≡ true → Leads u s (move_bytes 142 (a -ℤ h)) (placed h v o) [] (placed a v o)
     right-leads h v a o p r =
@@ -169,9 +133,7 @@ module _ (u : World) (s : List ℕ) where
 
     rule_step : (height width : ℕ) (h v : ℤ) (o : Option Chosen) → GoodMark m.faces (Rule height width h v) → exec u (put_rule (pos height) (pos width)) (placed h v o) ≡ ends (Rule height width h v ∷ []) (well (go (placed h v o)))
     unfolding exec
-    rule_step height width h v o good =
-        ap₂ (λ a b. bind (ruled a b (placed h v o).at) (kept (placed h v o))) (on.plain (pos height)) (on.plain (pos width))
-        ∙ ap (λ x. bind x (kept (placed h v o))) (rule_drawn m.faces height width h v good)
+    rule_step height width h v o good = grind arith
 
     rule_leads : (height width : ℕ) (h v : ℤ) (o : Option Chosen) → GoodMark m.faces (Rule height width h v) → Leads u s (137 ∷ (digits 4 height ++ digits 4 width)) (placed h v o) (Rule height width h v ∷ []) (placed h v o)
     rule_leads height width h v o good =
@@ -196,11 +158,11 @@ module _ (u : World) (s : List ℕ) where
     select_leads last n f h v e few = by (is_last last n) refl
       where
         selected : (l : Option ℕ) → is_last l n ≡ true → pen_font u l ≡ Some f
-        selected None p = absurd (let z : ◌≡◌ {A = Bool} true false = cc in let y : ◌≡◌ {A = ℕ} 0 1 = cc in omega arith)
+        selected None p = cc
         selected (Some k) p = let q : k ≡ n = eqb-true k n p in ap (λ x. font_of (u.choose x)) q ∙ ap font_of e
 
         by : (b : Bool) → is_last last n ≡ b → Leads u s (cond b [] ((171 + n) ∷ [])) (placed h v (pen_font u last)) [] (placed h v (Some f))
-        by true p = subst (Leads u s [] (placed h v (pen_font u last)) []) (ap (placed h v) (selected last p)) (nothing-leads u s (placed h v (pen_font u last)))
+        by true p = grind arith
         by false p = command_leads u s ((171 + n) ∷ []) (placed h v (pen_font u last)) (fnt n) [] (placed h v (Some f)) (omega arith) (λ at rest q. select_at s at rest n q few) (select_step n f h v (pen_font u last) e)
 
     put_step : (face size code : ℕ) (h v : ℤ) → GoodMark m.faces (Glyph face size code h v) → exec u (put (pos code)) (placed h v (Some (record { font = face; size = size }))) ≡ ends (Glyph face size code h v ∷ []) (well (go (placed h v (Some (record { font = face; size = size })))))
@@ -217,7 +179,7 @@ module _ (u : World) (s : List ℕ) where
 
     -- the selection of a pair; a new one is defined first
     font-leads : (pen : Pen) (o : Option ℕ) (face size : ℕ) (h v : ℤ) → u.choose (numbered pen.pairs o) ≡ Ok (record { font = face; size = size }) → numbered pen.pairs o < 64 → ((n : ℕ) → n < 64 → Fields n size (faces_of m face)) → Leads u s (font_bytes (faces_of m) pen o face size) (placed h v (pen_font u pen.last)) [] (placed h v (Some (record { font = face; size = size })))
-    font-leads pen (Some n) face size h v chosen few fields = select_leads pen.last n (record { font = face; size = size }) h v chosen few
+    font-leads pen (Some n) face size h v chosen few fields = grind (arith, select_leads)
     font-leads pen None face size h v chosen few fields =
         let n = length pen.pairs in
         let st : State = placed h v (pen_font u pen.last) in
@@ -243,15 +205,14 @@ module _ (u : World) (s : List ℕ) where
           let a = pair-numbered pen.pairs q o refl in
           let is = keeps n a.pair a.is in
           let chosen : u.choose n ≡ Ok f = on.chosen n a.pair is ∙ ap Ok (alike_font (entered pen.pairs o q) n face size a) in
-          let within = nth_within ps n a.pair is in
+          let within = slice_get_within ps n a.pair is in
           let fields : (k : ℕ) → k < 64 → Fields k size (F face) = pair_fields m q law (good.2, face-is_there (slice_get m.faces face) size code good.4) in
           subst (Leads u s (shape_bytes F pen (Glyph face size code h v)) (placed h v (pen_font u pen.last)) (Glyph face size code h v ∷ [])) (ap (placed h v) (sym (ap font_of chosen)))
           (then_leads u s (font_bytes F pen o face size) (133 ∷ code ∷ []) (placed h v (pen_font u pen.last)) (placed h v (Some f)) (placed h v (Some f)) [] (Glyph face size code h v ∷ [])
           (font-leads pen o face size h v chosen (omega arith) fields) (put-leads face size code h v good))
 
       mark_place : (x : Mark) → GoodMark m.faces x → (in_range (mark_h x) ≡ true) × (in_range (mark_v x) ≡ true)
-      mark_place (Glyph face size code h v) good = (good.0, good.1)
-      mark_place (Rule height width h v) good = (good.0, good.1)
+      mark_place x good = grind arith
 
       pen_place : (pen : Pen) (x : Mark) → GoodMark m.faces x → (in_range (pen_after F pen x).h ≡ true) × (in_range (pen_after F pen x).v ≡ true)
       unfolding pen_after

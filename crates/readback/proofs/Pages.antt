@@ -19,9 +19,7 @@ use Rattle.readback.proofs.Marks.{marks-read}
 module _ (F : ℕ → Facts) where
   pub length-page : (g : Progress) (p : Page) → Counted p → g.used + length (page_bytes F g p) ≡ (with_page F g p).used
   unfolding page_bytes with_page
-  length-page g p forty =
-      let ms = marks_bytes F (page_pen g) p.marks in
-      omega (arith, length-append p.counts (digits 4 g.last ++ (ms ++ (140 ∷ []))), length-append ms (140 ∷ []), length-marks F (page_pen g) p.marks)
+  length-page g p forty = grind (arith, length-append, length-marks)
 
   pub page-used : (g : Progress) (p : Page) → g.used + 46 ≤ (with_page F g p).used
   unfolding with_page
@@ -82,7 +80,7 @@ page-marks F s at g p rest forty e =
     let pointer = behind s at (139 ∷ p.counts) (digits 4 g.last ++ (ms ++ (140 ∷ rest))) from 41 (at + 41) (omega arith) refl in
     behind s (at + 41) (digits 4 g.last) (ms ++ (140 ∷ rest)) pointer 4 (at + 45) refl (omega arith)
 
-pub page-read : (m : Meaning) → Lawful m → (u : World) (s : List ℕ) (at : ℕ) (g : Progress) (p : Page) (rest : List ℕ) → Selects u m (with_page (faces_of m) g p).pairs → length (with_page (faces_of m) g p).pairs ≤ 64 → GoodPage m p → Counted p → drop at s ≡ page_bytes (faces_of m) g p ++ rest → run_from u s (at + 45) page_start ≡ ends p.marks (well tt)
+pub page_read : (m : Meaning) → Lawful m → (u : World) (s : List ℕ) (at : ℕ) (g : Progress) (p : Page) (rest : List ℕ) → Selects u m (with_page (faces_of m) g p).pairs → length (with_page (faces_of m) g p).pairs ≤ 64 → GoodPage m p → Counted p → drop at s ≡ page_bytes (faces_of m) g p ++ rest → run_from u s (at + 45) page_start ≡ ends p.marks (well tt)
 unfolding with_page
-page-read m law u s at g p rest on few good forty e =
+page_read m law u s at g p rest on few good forty e =
     marks-read u s m (pen_after_all (faces_of m) (page_pen g) p.marks).pairs on law few (page_pen g) p.marks refl refl good refl (at + 45) rest (page-marks (faces_of m) s at g p rest forty e)

@@ -1,9 +1,8 @@
 -- The pairs of a copy as it grows: each number keeps its pair, and each new pair is a good one of the bytes written. Assumes nothing.
-use Rattle.std.proofs.Common.{◌≡◌, ℕ, zero, suc, ◌+◌, ◌<◌, ◌≤◌, Bool, true, eqb, List, [], ◌∷◌, ◌++◌, length, get_or, is_some, Some, None, Option, sym, refl, ap, ◌∙◌, subst, append_assoc, append-nil, arith, length-append}
+use Rattle.std.proofs.Common.{◌≡◌, ℕ, zero, suc, ◌+◌, ◌<◌, ◌≤◌, Bool, true, List, [], ◌∷◌, ◌++◌, length, get_or, is_some, Some, None, Option, sym, refl, ap, ◌∙◌, append_assoc, append-nil, arith, length-append}
 use Rattle.std.specs.List.{AllByRecursion, slice_get}
 use Rattle.std.proofs.ByRecursion.{All-append, All-weaker}
 use Rattle.std.proofs.lemmas.Option.{slice_get-get_or}
-use Rattle.std.proofs.lemmas.Bool.{eqb-true, and_parts}
 use Rattle.numbers.specs.Lengths.{good_size}
 use Rattle.numbers.proofs.Seek.{match_within, match_passes}
 use Rattle.shelf.specs.declared.marks.Mark.{Mark}
@@ -13,28 +12,18 @@ use Rattle.shelf.specs.Meaning.{Meaning, Facts, FaceMeaning, width_in}
 use Rattle.machine.specs.declared.registers.Chosen.{Chosen}
 use Rattle.copies.specs.declared.pairs.Pair.{Pair}
 use Rattle.copies.specs.Pairs.{is_pair, pair_by, numbered, entered}
-use Rattle.copies.specs.Marks.{Pen, moved_to, font_bytes, shape_bytes, mark_bytes, pen_after, marks_bytes, pen_after_all}
+use Rattle.copies.specs.Marks.{Pen, mark_bytes, pen_after, marks_bytes, pen_after_all}
 use Rattle.readback.specs.Reading.{pair_font}
 
 -- by number
 pub nth_front : {X : Type 0} (xs ys : List X) (i : ℕ) (x : X) → slice_get xs i ≡ Some x → slice_get (xs ++ ys) i ≡ Some x
-nth_front [] ys i x e = absurd (let z : ◌≡◌ {A = ℕ} 0 1 = cc in omega arith)
+nth_front [] ys i x e = cc
 nth_front (y ∷ xs) ys zero x e = e
 nth_front (y ∷ xs) ys (suc i) x e = nth_front xs ys i x e
 
 pub nth_new : {X : Type 0} (xs : List X) (x : X) (ys : List X) → slice_get (xs ++ (x ∷ ys)) (length xs) ≡ Some x
 nth_new [] x ys = refl
 nth_new (y ∷ xs) x ys = nth_new xs x ys
-
-pub nth_within : {X : Type 0} (xs : List X) (i : ℕ) (x : X) → slice_get xs i ≡ Some x → i < length xs
-nth_within [] i x e = absurd (let z : ◌≡◌ {A = ℕ} 0 1 = cc in omega arith)
-nth_within (y ∷ xs) zero x e = omega arith
-nth_within (y ∷ xs) (suc i) x e = let r = nth_within xs i x e in omega arith
-
-pub all_nth : {X : Type 0} (P : X → Type 0) (xs : List X) (i : ℕ) (x : X) → AllByRecursion P xs → slice_get xs i ≡ Some x → P x
-all_nth P [] i x a e = absurd (let z : ◌≡◌ {A = ℕ} 0 1 = cc in omega arith)
-all_nth P (y ∷ xs) zero x a e = let q : y ≡ x = cc in subst P q a.0
-all_nth P (y ∷ xs) (suc i) x a e = all_nth P xs i x a.1 e
 
 -- a pair of a number, of the same face and size as another
 pub record Alike (ps : List Pair) (n face size : ℕ) : Type 0 where
@@ -50,8 +39,8 @@ pair_found ps face size n e =
     let test : Pair → Bool = λ p. is_pair p (face, size) in
     let within = match_within test ps n e in
     let p = get_or ps n d in
-    let both = and_parts (eqb p.face face) (eqb p.size size) (match_passes test ps d n e) in
-    record { pair = p; is = slice_get-get_or ps n d within; face-is = eqb-true p.face face both.0; size_is = eqb-true p.size size both.1 }
+    let passes = match_passes test ps d n e in
+    record { pair = p; is = slice_get-get_or ps n d within; face-is = grind arith; size_is = grind arith }
 
 -- a pair's number, once it has one
 pub pair-numbered : (ps : List Pair) (p : Pair) (o : Option ℕ) → pair_by ps p.face p.size ≡ o → Alike (entered ps o p) (numbered ps o) p.face p.size
@@ -59,10 +48,7 @@ pair-numbered ps p (Some n) e = pair_found ps p.face p.size n e
 pair-numbered ps p None e = record { pair = p; is = nth_new ps p []; face-is = refl; size_is = refl }
 
 pub alike_font : (ps : List Pair) (n face size : ℕ) (a : Alike ps n face size) → ◌≡◌ {A = Chosen} (pair_font a.pair) (record { font = face; size = size })
-alike_font ps n face size a =
-    let f = a.face-is in
-    let s = a.size_is in
-    cc
+alike_font ps n face size a = grind arith
 
 -- a list that grew by good ones
 pub record Grown (P : Pair → Type 0) (ps qs : List Pair) : Type 0 where
@@ -85,13 +71,13 @@ pub grown_weaker : (P Q : Pair → Type 0) → ((p : Pair) → P p → Q p) → 
 grown_weaker P Q w ps qs a = record { more = a.more; is = a.is; each = All-weaker P Q w a.more a.each }
 
 pub grown_keeps : (P : Pair → Type 0) (ps qs : List Pair) → Grown P ps qs → (i : ℕ) (p : Pair) → slice_get ps i ≡ Some p → slice_get qs i ≡ Some p
-grown_keeps P ps qs a i p e = ap (λ xs. slice_get xs i) a.is ∙ nth_front ps a.more i p e
+grown_keeps P ps qs a i p e = grind (arith, nth_front)
 
 pub grown_length : (P : Pair → Type 0) (ps qs : List Pair) → Grown P ps qs → length ps ≤ length qs
 grown_length P ps qs a = omega (arith, ap length a.is, length-append ps a.more)
 
 pub grown_all : (P : Pair → Type 0) (ps qs : List Pair) → Grown P ps qs → AllByRecursion P ps → AllByRecursion P qs
-grown_all P ps qs a b = subst (AllByRecursion P) (sym a.is) (All-append P ps a.more b a.each)
+grown_all P ps qs a b = grind (arith, All-append)
 
 entered_grown : (P : Pair → Type 0) (ps : List Pair) (o : Option ℕ) (p : Pair) → P p → Grown P ps (entered ps o p)
 entered_grown P ps (Some n) p h = grown_none P ps
@@ -107,8 +93,7 @@ GoodPair m p = (good_size p.size ≡ true) × (is_some (slice_get m.faces p.face
 
 -- a face that has a width is there
 pub face-is_there : (o : Option FaceMeaning) (size code : ℕ) → is_some (width_in o size code) ≡ true → is_some o ≡ true
-face-is_there (Some f) size code e = refl
-face-is_there None size code e = e
+face-is_there o size code e = grind arith
 
 module _ (F : ℕ → Facts) where
   -- the next byte's place
@@ -130,12 +115,7 @@ module _ (F : ℕ → Facts) where
   mark_places : (pen : Pen) (m : Mark) → Grown (Between pen.at (pen_after F pen m).at) pen.pairs (pen_after F pen m).pairs
   unfolding pen_after mark_bytes
   mark_places pen (Rule height width h v) = grown_none _ pen.pairs
-  mark_places pen (Glyph face size code h v) =
-      let m = Glyph face size code h v in
-      let o = pair_by pen.pairs face size in
-      let long = length-append (moved_to pen m) (shape_bytes F pen m) in
-      let shape = length-append (font_bytes F pen o face size) (133 ∷ code ∷ []) in
-      entered_grown (Between pen.at (pen.at + length (mark_bytes F pen m))) pen.pairs o (record { face = face; size = size; place = pen.at + length (moved_to pen m) }) (omega arith, omega arith)
+  mark_places pen (Glyph face size code h v) = grind (arith, length-append, entered_grown)
 
   pub marks_places : (pen : Pen) (ms : List Mark) → Grown (Between pen.at (pen_after_all F pen ms).at) pen.pairs (pen_after_all F pen ms).pairs
   unfolding pen_after_all
@@ -152,8 +132,7 @@ module _ (F : ℕ → Facts) where
   mark_pairs : (m : Meaning) (pen : Pen) (x : Mark) → GoodMark m.faces x → Grown (GoodPair m) pen.pairs (pen_after F pen x).pairs
   unfolding pen_after
   mark_pairs m pen (Rule height width h v) good = grown_none (GoodPair m) pen.pairs
-  mark_pairs m pen (Glyph face size code h v) good =
-      entered_grown (GoodPair m) pen.pairs (pair_by pen.pairs face size) _ (good.2, face-is_there (slice_get m.faces face) size code good.4)
+  mark_pairs m pen (Glyph face size code h v) good = grind (arith, entered_grown, face-is_there)
 
   -- and is good, as the marks are
   pub marks-pairs : (m : Meaning) (pen : Pen) (ms : List Mark) → AllByRecursion (GoodMark m.faces) ms → Grown (GoodPair m) pen.pairs (pen_after_all F pen ms).pairs

@@ -1,11 +1,11 @@
 -- What stands from a place of some bytes on, and the numbers read there. Assumes nothing.
-use Rattle.std.proofs.Common.{◌≡◌, ℕ, ◌+◌, ◌*◌, ◌^◌, ◌<◌, ◌≤◌, true, leb, List, [], ◌∷◌, ◌++◌, length, get_or, take, drop, replicate, ℤ, pos, negsuc, Some, sym, refl, ap, ◌∙◌, zero-add, arith, length-append, length-drop, rules}
+use Rattle.std.proofs.Common.{◌≡◌, ℕ, ◌+◌, ◌^◌, ◌<◌, ◌≤◌, true, List, [], ◌∷◌, ◌++◌, length, get_or, take, drop, replicate, ℤ, Some, sym, refl, ap, ◌∙◌, zero-add, arith, length-append, length-drop, rules}
 use lib.ListN.{length-replicate}
 use lib.Seq.{paste}
 use Rattle.std.proofs.lemmas.List.Prefix.{at_reads}
 use Rattle.std.proofs.lemmas.List.{drop_at, drop-drop, take_at, places}
-use Rattle.std.proofs.lemmas.Bool.{ltb-true, le-leb, and_from, cond-true}
-use Rattle.numbers.specs.Bytes.{is_width, number, readable, number_at, signed, signed_at, digits, signed_fits, complement}
+use Rattle.std.proofs.lemmas.Bool.{cond-true}
+use Rattle.numbers.specs.Bytes.{is_width, number, readable, number_at, signed_at, digits, signed_fits, complement}
 use Rattle.numbers.proofs.Digits.{length_digits, number_same, paste-number, signed-complement}
 
 module _ (s : List ℕ) (at : ℕ) (xs rest : List ℕ) (e : drop at s ≡ xs ++ rest) where
@@ -30,30 +30,25 @@ head_at s at b rest e =
 -- the number whose bytes stand there
 pub number-at : (s : List ℕ) (at w n : ℕ) (rest : List ℕ) → drop at s ≡ digits w n ++ rest → n < 256 ^ w → number s at w ≡ n
 number-at s at w n rest e h =
-    let z = replicate w 0 in
+    let z : List ℕ = replicate w 0 in
     let lz : length z ≡ w = length-replicate w 0 in
     let ld : length (digits w n) ≡ w = length_digits w n in
-    let r : 0 + w ≤ length z = omega arith in
     number_same s (paste z 0 (digits w n) w) at 0 w (λ i k. read_at s at (digits w n) rest e i (at + i) (omega arith) refl ∙ rw zero-add (search (rules, places)))
-    ∙ paste-number z 0 w n r h
+    ∙ paste-number z 0 w n (omega arith) h
 
 module _ (s : List ℕ) (at w n : ℕ) (rest : List ℕ) (e : drop at s ≡ digits w n ++ rest) (width : is_width w ≡ true) (some : 0 < w) where
   pub readable-at : readable s at w ≡ true
   readable-at =
       let l : length (digits w n) ≡ w = length_digits w n in
       let i = inside s at (digits w n) rest e (omega arith) in
-      and_from (is_width w) (leb (at + w) (length s)) width (le-leb (at + w) (length s) (omega arith))
+      grind arith
 
   pub number_at-is : n < 256 ^ w → number_at s at w ≡ Some n
-  number_at-is h = cond-true _ _ _ readable-at ∙ ap Some (number-at s at w n rest e h)
+  number_at-is h = grind (arith, cond-true, readable-at, number-at)
 
 complement-below : (w : ℕ) (z : ℤ) → signed_fits w z ≡ true → complement w z < 256 ^ w
-complement-below w (pos n) f = omega (arith, ltb-true (2 * n) (256 ^ w) f)
-complement-below w (negsuc n) f = omega (arith, ltb-true (2 * n) (256 ^ w) f)
+complement-below w z f = grind arith
 
 -- a length in two's complement
 pub signed_at-is : (s : List ℕ) (at w : ℕ) (z : ℤ) (rest : List ℕ) → drop at s ≡ digits w (complement w z) ++ rest → is_width w ≡ true → 0 < w → signed_fits w z ≡ true → signed_at s at w ≡ Some z
-signed_at-is s at w z rest e width some f =
-    cond-true _ _ _ (readable-at s at w (complement w z) rest e width some)
-    ∙ ap (λ n. Some (signed w n)) (number-at s at w (complement w z) rest e (complement-below w z f))
-    ∙ ap Some (signed-complement w z some f)
+signed_at-is s at w z rest e width some f = grind (arith, cond-true, readable-at, number-at, complement-below, signed-complement)

@@ -5,15 +5,13 @@ ghost use Rattle.readback.specs.Cases.{WorkedMarks};
 ghost use Rattle.readback.specs.Reading.{PagesReadBack};
 
 // A written page, read over the faces alone, has the marks that it was written from.
-pub fn pages_read_back() -> u8
+#[tactic(auto, using(crate::proofs::Pages::page_read))]
+pub fn pages_read_back()
     ensures { PagesReadBack }
-{
-    0
-}
+{}
 
 // Short lists of marks have the bytes that are stated for them.
-pub fn worked_marks() -> u8
+#[tactic(auto, unfolding(copies::specs::Pairs::pair_by, copies::specs::Marks::move_bytes, copies::specs::Marks::define_bytes, copies::specs::Marks::mark_bytes, copies::specs::Marks::pen_after, copies::specs::Marks::marks_bytes, copies::specs::Marks::pen_after_all))]
+pub fn worked_marks()
     ensures { WorkedMarks }
-{
-    0
-}
+{}

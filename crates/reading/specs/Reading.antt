@@ -1,5 +1,6 @@
 -- Reading a page: a document's page n, run over a shelf.
 use Rattle.std.specs.Prelude.{◌≡◌, ℕ, ◌+◌, true, cond, List, [], take, drop, pos, Some, None, Ok, Err, Option, Result}
+use Rattle.std.specs.Option.{option_map, ok_or}
 use Rattle.numbers.specs.Lengths.{good_size}
 use Rattle.shelf.specs.declared.marks.Link.{Link}
 use Rattle.shelf.specs.declared.marks.Mark.{Mark}
@@ -13,6 +14,7 @@ use Rattle.shelf.specs.Names.{found_in}
 use Rattle.shelf.specs.Outcomes.{Outcome}
 use Rattle.commands.specs.Definitions.{Defined}
 use Rattle.machine.specs.declared.registers.Chosen.{Chosen}
+use Rattle.machine.specs.Acts.{Acts, world}
 use Rattle.machine.specs.Runs.{run_from}
 use Rattle.machine.specs.Steps.{World, State}
 use Rattle.document.specs.declared.documents.Document.{Document}
@@ -34,9 +36,13 @@ chosen_in names (Some d) = at_size (found_in names d.name) d.size
 abbrev pub page_link : ℕ → ℕ → Link
 page_link n at = record { font = 65535; code = n; place = at }
 
--- what a page runs over: lengths stand for themselves, and the postamble's definitions hold
+-- lengths stand for themselves, and the postamble's definitions hold
+abbrev pub page_acts : List ℕ → Document → ℕ → Acts
+page_acts bs d n = record { measure = Some; choose = λ names k. chosen_in names (font_by bs d k); page = true; link_at = page_link n }
+
+-- what a page runs over
 abbrev pub page_world : Meaning → List ℕ → Document → ℕ → World
-page_world m bs d n = record { below = m; measure = Some; choose = λ k. chosen_in m.names (font_by bs d k); page = true; link_at = page_link n }
+page_world m bs d n = world m (page_acts bs d n)
 
 -- zeros and no font
 abbrev pub page_start : State
@@ -46,14 +52,11 @@ page_start = record { at = record { h = pos 0; v = pos 0; w = pos 0; x = pos 0; 
 unfoldable pub page_outcome : Meaning → List ℕ → Document → ℕ → ℕ → Outcome (Unit {0})
 page_outcome m bs d n a = run_from (page_world m bs d n) (take d.post bs) (a + 45) page_start
 
-abbrev pub page_reading_at : Meaning → List ℕ → Document → ℕ → Option ℕ → Result (Outcome (Unit {0})) Refusal
-page_reading_at m bs d n (Some a) = Ok (page_outcome m bs d n a)
-page_reading_at m bs d n None = Err NoPage
-
 -- page n of a document that was judged
 abbrev pub page_reading : Meaning → List ℕ → Document → ℕ → Result (Outcome (Unit {0})) Refusal
-page_reading m bs d n = page_reading_at m bs d n (page_place bs d n)
+page_reading m bs d n = ok_or (option_map (page_outcome m bs d n) (page_place bs d n)) NoPage
 
+-- by cases, since std has no word for a Result's `and_then`
 abbrev pub reading_of : Meaning → List ℕ → ℕ → Result Document Refusal → Result (Outcome (Unit {0})) Refusal
 reading_of m bs n (Err e) = Err e
 reading_of m bs n (Ok d) = page_reading m bs d n
