@@ -1,4 +1,5 @@
-// What the first byte of a command says: its kind, and in how many bytes its parameter stands.
+// What the first byte of a command says: its kind, and in how many bytes its parameter stands, 0 where it has none. The two
+// are a pair, since every kind with a parameter reads its width alike: a width in each case would be matched out ten times.
 ghost use Rattle.std.specs.Prelude.{◌≡◌, ◌≤◌};
 ghost use Rattle.commands.specs.Kinds.{kind_of};
 

@@ -35,7 +35,8 @@ pub struct Drawn {
     pub width: i64,
 }
 
-// A command carried out: the marks made, its length in bytes, and whether the page or packet goes on.
+// A command carried out: the marks made, its length in bytes, and whether the page or packet goes on. All three are there
+// in any case, and the loop asks the last one once, so an enum of two cases would be no plainer than a bool.
 #[derive(Clone, Copy)]
 pub struct Turn {
     pub marks: usize,

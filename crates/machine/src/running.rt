@@ -18,8 +18,6 @@ use shelf::{Cause, Link, Mark, Refusal, Shelf, pass_on};
 
 impl<S: Shelf, B: Body> Level<'_, S, B> {
     // Runs the bytes from a place on, and answers the marks made at the front of the list.
-    // The chain list and the mark list stay two parameters: one value that holds both would have to be made anew for
-    // each call that gets the rest of the marks.
     pub fn run(
         &self,
         start: usize,

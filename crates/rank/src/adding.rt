@@ -48,7 +48,8 @@ fn no_room(files: usize, bytes: usize, fonts: u16, more: usize) -> bool
 }
 
 impl<S: Shelf> Rank<S> {
-    // The name that a new font is given; none where it has not 1 to 63 bytes, or a font bears it already.
+    // The name that a new font is given; none where it has not 1 to 63 bytes, or a font bears it already. It reads as the
+    // TFM shelf's, but asks another table; what both share is `Name::new`, and a function for the rest would be as long.
     fn new_name(&self, bytes: &[u8]) -> Option<Name>
         ensures is { option_map spelled result ≡ (if free (rank_of (S.means self.now.below) (files_of self.now)).names bytes.now then Some bytes.now else None) }
         ensures fresh { IfSome result (λ n. found_in (rank_of (S.means self.now.below) (files_of self.now)).names (spelled n) ≡ None) }

@@ -41,6 +41,8 @@ pub trait Shelf {
 
     // A character: its marks at the front of `marks`, the unused rest of the caller's list.
     // Answers the marks written and the width, or a refusal; a fault's chain stands at the front of `chain`.
+    // The two lists stay two parameters: one value that holds both would be made anew for each call that gets the rest of
+    // the marks, and a clause sees what such a value lends only by its state at the entry and the exit.
     fn character(
         &self,
         asked: Asked,

@@ -16,10 +16,8 @@ impl Name {
             return None;
         }
         let mut kept = ArrayVec::new();
-        match kept.try_extend_from_slice(bytes) {
-            Ok(()) => Some(Name { bytes: kept }),
-            Err(_) => None,
-        }
+        kept.try_extend_from_slice(bytes).ok()?;
+        Some(Name { bytes: kept })
     }
 
     pub fn as_slice(&self) -> &[u8]
