@@ -109,6 +109,7 @@ fn a_cut_file_is_refusal_7(rt: HostRuntime) {
 }
 
 // The second entry's places, and what comes of it after an entry b.
+// An `Entry` written out would take six lines a row.
 const SECOND: [(usize, usize, usize, usize, Result<(), Refusal>); 12] = [
     // another name; the same name; the same name with a broken file; the same name with a file outside
     (45, 1, 0, 44, Ok(())),
