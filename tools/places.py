@@ -41,7 +41,6 @@ POINTS = [
         r"\bfor \([^)]*\) in \w+\.iter\(\) \{\s*if",
     ]),
     ("4 conversions, printing and zero values by hand", [
-        r"\bas (?:u8|u16|u32|u64|i32|i64|i128|usize)\b",
         r"-> &'static str",
         r"pub fn (?:count|face|refusal|mark|link|scaled)\([^)]*out: &mut Output",
         r"Registers \{\s*h: [^}]*z: 0,",

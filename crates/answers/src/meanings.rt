@@ -1,4 +1,5 @@
-// What each refusal of the library means, in plain words.
+// What each refusal of the library means, in plain words. A `Display` for them would be the same `match`, around a type that
+// is made for it alone.
 use shelf::{Cause, Refusal};
 
 pub fn meaning(refusal: &Refusal) -> &'static str {

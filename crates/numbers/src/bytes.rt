@@ -29,7 +29,7 @@ pub fn signed_at(bytes: &[u8], place: usize, width: usize) -> Option<i32>
 }
 
 // The unsigned number in the bytes from `place` on, of which there are `width`, but no more than 4.
-// A byte past the end counts as 0.
+// A byte past the end counts as 0, so the loop counts bytes, of which some may be in no slice that an iterator could go over.
 pub fn number(bytes: &[u8], place: usize, width: usize) -> u32
     ensures value { result ≡ number bytes.now place (min width 4) }
     ensures bound { result < 256 ^ min width 4 }

@@ -63,6 +63,7 @@ pub fn all<T: Number, const N: usize>(words: &[&[u8]]) -> Result<[T; N], Problem
     if words.len() != N {
         return Err(Problem::WrongCount);
     }
+    // The array is filled by place: `array::try_from_fn` asks that it fits in memory, which no N promises here.
     let mut numbers = [T::default(); N];
     for (i, word) in words.iter().enumerate() {
         numbers[i] = T::spelled(word)?;

@@ -62,7 +62,8 @@ impl Reader {
         }
     }
 
-    // Item by item to the end of the file.
+    // Item by item to the end of the file. Each item says where the next one begins, and changes the tables that the next is
+    // read into: no iterator of the library steps so.
     fn items<S: Shelf>(mut self, below: &S, file: &[u8], start: usize) -> Result<Vf, Refusal>
         requires { start ≤ length file.now }
         ensures { vf_in result ≡ walk (S.means below.now).names file.now 0 start (length file.now - start) (reading_of self) }
