@@ -117,12 +117,17 @@ module _ (s t u : Entries) (w : Walked (wrong s.front.now (Some 0)) s t) (x : �
 pub fair_all : (s t : Entries) → Walked (wrong s.front.now (Some 0)) s t → t.to ≤ t.at → s.to ≡ stop_at (wrong s.front.now (Some 0)) s.front.now s.at s.to
 fair_all s t w le = ap (stop_of s.to) (walk_end _ s t w.0 w.1 le)
 
+-- a number outside the range: none there
+module _ (bs : List ℕ) (lo : ℕ) where
+  within_by_lem : (at : ℕ) (hi o : Option ℕ) (ns : List ℕ) → o ≡ (entry_at bs at).number → false ≡ within_by lo hi o → false ≡ within bs lo hi at ns
+  unfolding within
+  within_by_lem at hi o ns is h = h ∙ ap (within_by lo hi) is
+
 -- the walk for the least number
 module _ (s t u : Entries) (lo : ℕ) (hi : Option ℕ) (w : Walked (within s.front.now lo hi) s t) (x : ℕ × Option Definition) (turned : Turns t x u) where
   pub least_on : (o : Option ℕ) → o ≡ number_by (option_map defines x.1) → false ≡ within_by lo hi o → Walked (within s.front.now lo hi) s u
-  unfolding within
   least_on o is h =
-      let no : false ≡ within_by lo hi (entry_at s.front.now t.at).number = h ∙ ap (within_by lo hi) (is ∙ turn-number s t u x turned w.1.front) in
+      let no : false ≡ within s.front.now lo hi t.at w.0 = within_by_lem s.front.now lo t.at hi o w.0 (is ∙ turn-number s t u x turned w.1.front) h in
       (noted s.front.now t.at w.0, walk_on _ s t u w.0 w.1 x turned no)
 
 pub least-all : (s t : Entries) (lo : ℕ) (hi : Option ℕ) → Walked (within s.front.now lo hi) s t → t.to ≤ t.at → first_of (within s.front.now lo hi) s.front.now s.at (s.to - s.at) 0 [] ≡ None

@@ -1,6 +1,6 @@
 -- A walk over the commands of the postamble: one command on, a command at which it stops, and its end. Assumes nothing.
-use Rattle.std.proofs.Common.{◌≡◌, ℕ, zero, suc, ◌+◌, ◌-◌, ◌<◌, ◌≤◌, Bool, true, false, cond, List, [], Some, None, Option, sym, refl, ap, ◌∙◌, arith}
-use Rattle.std.specs.Option.{option_map}
+use Rattle.std.proofs.Common.{◌≡◌, ℕ, zero, suc, ◌+◌, ◌-◌, ◌<◌, ◌≤◌, Bool, true, false, cond, List, [], length, Some, None, Option, sym, refl, ap, ◌∙◌, arith}
+use Rattle.std.specs.Option.{option_map, option_map_or}
 use Rattle.commands.specs.declared.parts.Definition.{Definition}
 use Rattle.commands.specs.Shapes.{defines}
 use Rattle.commands.specs.Definitions.{Defined, definition_at}
@@ -82,6 +82,11 @@ some_bytes w (Some d) = omega arith
 pub long_enough : (bs : List ℕ) (at : ℕ) → 0 < (entry_at bs at).span
 unfolding entry_at
 long_enough bs at = some_bytes _ (defined_at bs at)
+
+-- how many bytes a command has, by the definition that was read
+pub span-read : (w : ℕ) (d : Option Definition) → option_map_or (λ d. w + 15 + length d.name.now) d 1 ≡ span_by w (option_map defines d)
+span-read w (Some d) = refl
+span-read w None = refl
 
 -- a turn, by the definition that was read
 pub turns_at : (s : Entries) (w next : ℕ) (d : Option Definition) → s.at < s.to → w ≡ wide s.front.now s.at → option_map defines d ≡ definition_at s.front.now s.at w

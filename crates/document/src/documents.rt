@@ -9,7 +9,7 @@ pub struct Document {
     // the places of the postamble's 248 and of the 249 behind it
     pub post: usize,
     pub end: usize,
-    // the place of the last page, 4,294,967,295 where there is none
+    // the place of the last page as the postamble has it, 4,294,967,295 where there is none
     pub last: u32,
     pub pages: u16,
 }

@@ -55,16 +55,9 @@ impl<'a> Iterator for Entries<'a> {
             return None;
         }
         let width = width_at(self.front, at);
-        match definition_at(self.front, at, width) {
-            Some(d) => {
-                self.at = at + width + 15 + d.name.len();
-                Some((at, Some(d)))
-            }
-            None => {
-                self.at = at + 1;
-                Some((at, None))
-            }
-        }
+        let d = definition_at(self.front, at, width);
+        self.at = at + d.map_or(1, |d| width + 15 + d.name.len());
+        Some((at, d))
     }
 }
 

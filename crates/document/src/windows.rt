@@ -77,7 +77,8 @@ fn least(entries: Entries<'_>, lo: usize) -> Option<usize>
         .min()
 }
 
-// The font number that a command defines, if it is from `lo` on.
+// The font number that a command defines, if it is from `lo` on. A usize, as the places in a window's
+// table are: its bound stands in three contracts for that, and there is no conversion on the way to the table.
 fn number_from(definition: Option<Definition<'_>>, lo: usize) -> Option<usize>
     ensures value { result ≡ from_on lo (number_by (option_map defines definition.entry)) }
     ensures bound { IfSome result (λ n. (lo ≤ n) × (n < 2 ^ 32)) }

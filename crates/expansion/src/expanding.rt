@@ -42,6 +42,7 @@ fn run_packet<S: Shelf>(
     ensures { Answered (packet_run (S.means below.now) (font_of vf.now) file.now asked packet) chain.old chain.new marks.old marks.new (counted result) }
 {
     let body = PacketBody { vf, asked };
+    // `pass_on` writes the chain: with `map_err` and a closure that does, the proof did not close.
     let font = match first_font(vf, asked.size) {
         Ok(font) => font,
         Err(cause) => return Err(pass_on(cause.into(), body.link(packet.start), chain)),

@@ -27,10 +27,9 @@ pub(crate) fn select(vf: &Vf, size: u32, number: u32) -> Result<Chosen, Cause>
 pub(crate) fn first_font(vf: &Vf, size: u32) -> Result<Option<Chosen>, Cause>
     ensures { result ≡ first_font (font_of vf.now) size }
 {
-    let Some(local) = vf.first_local() else {
-        return Ok(None);
-    };
-    chosen_at(size, local).map(Some)
+    vf.first_local()
+        .map(|local| chosen_at(size, local))
+        .transpose()
 }
 
 fn chosen_at(size: u32, local: Local) -> Result<Chosen, Cause>
@@ -42,10 +41,9 @@ fn chosen_at(size: u32, local: Local) -> Result<Chosen, Cause>
 fn sized_at(font: u16, size: Option<i32>) -> Result<Chosen, Cause>
     ensures { result ≡ sized_at font size }
 {
-    let size = u32::try_from(size.ok_or(Cause::BadSize)?).unwrap_or(0);
-    if is_size(size) {
-        Ok(Chosen { font, size })
-    } else {
-        Err(Cause::BadSize)
-    }
+    let size = u32::try_from(size.ok_or(Cause::BadSize)?)
+        .ok()
+        .filter(|size| is_size(*size))
+        .ok_or(Cause::BadSize)?;
+    Ok(Chosen { font, size })
 }

@@ -3,7 +3,8 @@ ghost use Rattle.std.specs.Prelude.{◌≡◌, ◌≤◌, length};
 
 use crate::registers::Registers;
 
-// One table of fixed size in a plain struct, as the project asks: no memory is reserved, and one frame moves at a time.
+// A rule of the project: saved frames stand in one table of fixed size in a plain struct, so that a push or a pop moves
+// one frame, and no memory is reserved.
 #[derive(Drop)]
 pub struct Frames {
     saved: [Registers; 64],

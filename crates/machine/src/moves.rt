@@ -10,6 +10,7 @@ use commands::Command;
 use numbers::moved;
 use shelf::Cause;
 
+// `across` and `downward` differ in one field, which Rust has no parameter for.
 pub(crate) fn across(r: Registers, b: i64) -> Result<Registers, Cause>
     ensures { ending_of result ≡ across_by r b }
 {

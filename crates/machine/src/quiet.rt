@@ -43,8 +43,15 @@ impl Machine {
         if !is_page {
             return Err(Cause::NotAllowed);
         }
+        self.no_frames()?;
+        Ok(false)
+    }
+
+    pub(crate) fn no_frames(&self) -> Result<(), Cause>
+        ensures { ending_of result ≡ at_end (view_of self.now) tt }
+    {
         if self.frames.is_empty() {
-            Ok(false)
+            Ok(())
         } else {
             Err(Cause::Frames)
         }

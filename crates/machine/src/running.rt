@@ -38,6 +38,7 @@ impl<S: Shelf, B: Body> Level<'_, S, B> {
             }
             at += t.length;
         }
+        // `pass_on` writes the chain: with `map_err` and a closure that does, the proofs here did not close.
         match m.finish(self.body.is_page()) {
             Ok(()) => Ok(used),
             Err(cause) => Err(pass_on(cause.into(), self.body.link(at), chain)),
@@ -59,6 +60,7 @@ impl<S: Shelf, B: Body> Level<'_, S, B> {
         let Some((command, length)) = command_at(self.bytes, at) else {
             return Err(pass_on(Cause::PastEnd.into(), self.body.link(at), chain));
         };
+        // By `match` for the reason that `run` gives.
         match self.step(command, m, chain, marks) {
             Ok((marks, on)) => Ok(Turn { marks, length, on }),
             Err(e) => Err(pass_on(e, self.body.link(at), chain)),
@@ -74,10 +76,6 @@ impl Machine {
         if is_page {
             return Err(Cause::PastEnd);
         }
-        if self.frames.is_empty() {
-            Ok(())
-        } else {
-            Err(Cause::Frames)
-        }
+        self.no_frames()
     }
 }

@@ -21,7 +21,8 @@ impl<S: Shelf> Rank<S> {
         ensures rest { drop (min (length offers.now) (length answers.old)) answers.new ≡ drop (min (length offers.now) (length answers.old)) answers.old }
         ensures below { self.new.below ≡ self.old.below }
     {
-        // The answers are written by place: with `iter_mut` no invariant can name what it has written so far (tried).
+        // The answers are written by place: `iter_mut` behind an adapter, as `zip` is, does not say what it has written so far
+        // (tried, the proof did not close).
         for (k, offer) in offers.iter().enumerate() {
             if k >= answers.len() {
                 return;

@@ -8,6 +8,7 @@ use crate::fonts::Font;
 use shelf::Shelf;
 
 // The files' bytes one after another, and a font for each, in the order in which they were added.
+// One buffer holds all files, reserved when the rank is made: to add a file allocates nothing.
 #[derive(Drop)]
 pub struct Rank<S: Shelf> {
     pub(crate) below: S,

@@ -9,7 +9,7 @@ use terminal::Output;
 use tfm::TfmShelf;
 
 // Each way in which shelves are put together is a case, since each is a type of its own. A `Box<dyn Shelf>` in their
-// place would be made here and handed out, which the gate refuses.
+// place would be made here and handed out, which the checker refuses.
 #[derive(Drop)]
 pub enum Current {
     Tfm(TfmShelf),

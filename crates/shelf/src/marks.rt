@@ -19,7 +19,7 @@ pub enum Mark {
 }
 
 // A packet under way at a fault, by its font and code, or the page, by 65,535 and its number;
-// and the place of the command that did not succeed.
+// and the place of the command that did not succeed. Two numbers of 16 bits for both: links are given so to callers.
 #[derive(Clone, Copy, Debug, Eq, PartialEq)]
 pub struct Link {
     pub font: u16,

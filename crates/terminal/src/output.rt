@@ -18,7 +18,8 @@ impl Output {
         }
     }
 
-    // What `write!` and `writeln!` call.
+    // What `write!` and `writeln!` call. Alike to `write_bytes` but for one call: a function for both would take a closure
+    // over the writer, and be no plainer.
     pub fn write_fmt<D: Display + Drop>(&mut self, text: D) {
         if let Ok(to) = &mut self.to {
             if let Err(error) = to.write_fmt(text) {

@@ -1,6 +1,6 @@
 -- Entries read one after the other. Assumes nothing.
-use Rattle.std.proofs.Common.{◌≡◌, ℕ, ◌+◌, ◌<◌, ◌≤◌, List, [], ◌∷◌, ◌++◌, map, length, get_or, drop, None, Ok, Err, Result, sym, ap, ◌∙◌, arith, length-append}
-use Rattle.std.proofs.lemmas.List.{drop_more, drop_all, map-append}
+use Rattle.std.proofs.Common.{◌≡◌, ℕ, ◌+◌, ◌<◌, ◌≤◌, List, [], ◌∷◌, ◌++◌, map, length, get_or, drop, None, Ok, Err, Result, sym, refl, ap, ◌∙◌, arith, length-append}
+use Rattle.std.proofs.lemmas.List.{drop_more, drop_all}
 use Rattle.shelf.specs.declared.refusals.Refusal.{Refusal}
 use Rattle.shelf.specs.Names.{found_in}
 use Rattle.shelf.specs.Spelling.{spelled}
@@ -10,7 +10,7 @@ use Rattle.tfm.specs.Making.{entered, entered_from, joined}
 use Rattle.tfm.specs.Outlines.{Outline, outline_of}
 use Rattle.tfm.specs.Listing.{Faces}
 use Rattle.tfm.specs.Unlike.{face_names, Unlike}
-use Rattle.tfm.proofs.Names.{unlike-push}
+use Rattle.tfm.proofs.Names.{outlines_push, unlike-push}
 
 -- k entries are read, each to a face, and there is room for the rest
 pub record SoFar (bytes : List ℕ) (es : List Entry) (k : ℕ) (fs : List TfmFace) (cap : ℕ) : Type 0 where
@@ -20,6 +20,10 @@ pub record SoFar (bytes : List ℕ) (es : List Entry) (k : ℕ) (fs : List TfmFa
   pub read : entered_from bytes [] 0 es ≡ entered_from bytes (map outline_of fs) k (drop k es)
 
 module _ (bytes : List ℕ) (es : List Entry) where
+  -- before the first entry
+  pub nothing_yet : (fs : List TfmFace) (cap : ℕ) → fs ≡ [] → length es ≤ cap → SoFar bytes es 0 fs cap
+  nothing_yet fs cap e h = rw e (record { count = refl; room = h; unlike = λ i j l q. absurd (omega (arith, l.1)); read = refl })
+
   -- an entry is read after those before it
   module _ (k : ℕ) (d : Entry) (fs seen : List TfmFace) (cap : ℕ) (l : k < length es) (s : SoFar bytes es k fs cap) (is : seen ≡ fs) where
     onward : Result Outline Refusal → Result (List Outline) Refusal
@@ -40,7 +44,7 @@ module _ (bytes : List ℕ) (es : List Entry) where
           count = length-append fs (f ∷ []) ∙ ap (λ n. n + 1) s.count;
           room = s.room;
           unlike = unlike-push fs f s.unlike (ap (λ x. found_in (face_names x) (spelled f.name)) (sym is) ∙ fresh);
-          read = next (Ok (outline_of f)) o ∙ ap (λ os. entered_from bytes os (k + 1) (drop (k + 1) es)) (sym (map-append outline_of fs (f ∷ [])));
+          read = next (Ok (outline_of f)) o ∙ ap (λ os. entered_from bytes os (k + 1) (drop (k + 1) es)) (sym (outlines_push fs f));
         })
 
     pub refused : (r : Refusal) → Err r ≡ entered bytes (map outline_of seen) k (get_or es k d) → Err r ≡ entered_from bytes [] 0 es

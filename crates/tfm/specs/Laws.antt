@@ -15,6 +15,7 @@ use Rattle.shelf.specs.Alone.{name_of}
 use Rattle.shelf.specs.Laws.{GoodFace, GoodFacts, GoodOutcome, Lawful}
 use Rattle.shelf.specs.Meaning.{FaceMeaning, called, started, face_outcome, width_in}
 use Rattle.shelf.specs.Names.{GoodName, found_in}
+use Rattle.shelf.specs.Spelling.{spelled}
 use Rattle.shelf.specs.FaceLaws.{named}
 use Rattle.shelf.specs.Finding.{apart_distinct, found_distinct}
 use Rattle.shelf.specs.Served.{called-fault, called_runs}
@@ -31,6 +32,10 @@ pub record Wide (o : Outline) (size code : ℕ) (w : ℤ) : Type 0 where
   pub word : ℕ
   pub is : scaled size word ≡ Some w
 
+-- no number where none is
+absent : {X : Type 0} (w : ℤ) → ◌≡◌ {A = Option ℤ} None (Some w) → X
+absent w q = cc
+
 wide : (bytes : List ℕ) (o : Outline) (size code : ℕ) (w : ℤ) → width_of bytes o size code ≡ Some w → Wide o size code w
 wide bytes o size code w e = by (nat_le o.first code && nat_lt code (o.first + o.count)) refl e
   where
@@ -39,15 +44,19 @@ wide bytes o size code w e = by (nat_le o.first code && nat_lt code (o.first + o
 
     worded : code < o.first + o.count → (n : Option ℕ) → scaled_word size n ≡ Some w → Wide o size code w
     worded l (Some n) q = record { within = l; word = n; is = q }
-    worded l None q = cc
+    worded l None q = absent w q
 
     indexed : code < o.first + o.count → (b : Bool) → cond b None (scaled_word size (number_at bytes (o.widths + 4 * index) 4)) ≡ Some w → Wide o size code w
-    indexed l true q = cc
+    indexed l true q = absent w q
     indexed l false q = worded l (number_at bytes (o.widths + 4 * index) 4) q
 
     by : (b : Bool) → (nat_le o.first code && nat_lt code (o.first + o.count)) ≡ b → cond b (by_index bytes o size (slice_index bytes (o.characters + 4 * (code - o.first)))) None ≡ Some w → Wide o size code w
     by true p q = indexed (ltb-true code (o.first + o.count) (and_parts (nat_le o.first code) (nat_lt code (o.first + o.count)) p).1) (index == 0) q
-    by false p q = cc
+    by false p q = absent w q
+
+-- a name has as many bytes as are kept
+spelled-length : (f : TfmFace) → length (spelled f.name) ≡ length f.name.bytes.items
+spelled-length f = refl
 
 good-names : (fs : List TfmFace) → AllByRecursion GoodName (face_names fs)
 good-names [] = tt

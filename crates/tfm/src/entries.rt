@@ -5,7 +5,7 @@ ghost use Rattle.tfm.specs.declared.entries.NotMade.TheVariants.{Refused, NoMemo
 use shelf::Refusal;
 use std::alloc::AllocError;
 
-// Where a face's name and its TFM file stand in the bytes.
+// Where a face's name and its TFM file stand in the bytes. Places, not slices: a range that is past the end has a refusal.
 #[derive(Clone, Copy)]
 pub struct Entry {
     pub name_place: usize,

@@ -9,6 +9,7 @@ pub struct Local {
 }
 
 // A packet: where in the file its bytes start, how many they are, and its width as a fix_word's four bytes.
+// A place and a length, not a slice, since the tables outlive the borrow of the file.
 #[derive(Clone, Copy)]
 pub struct Packet {
     pub start: usize,

@@ -1,11 +1,12 @@
-// A name made from bytes, and its bytes again.
-ghost use Rattle.std.specs.Prelude.{◌≡◌};
+// A name made from bytes, its bytes again, and a second name of the same bytes.
+ghost use Rattle.std.specs.Prelude.{◌≡◌, ⊤};
 ghost use Rattle.std.specs.Option.{option_map};
 ghost use Rattle.shelf.specs.Names.{kept};
 ghost use Rattle.shelf.specs.Spelling.{spelled};
 
 use crate::names::Name;
 use arrayvec::ArrayVec;
+use std::alloc::AllocError;
 
 impl Name {
     // A name of these bytes; none where they are not 1 to 63.
@@ -24,5 +25,16 @@ impl Name {
         ensures { result.now ≡ spelled self.now }
     {
         self.bytes.as_slice()
+    }
+}
+
+// It never fails.
+impl Clone for Name {
+    ghost is_clone = { λ n copy. spelled copy ≡ spelled n };
+
+    ghost is_infallible = { λ _. ⊤ };
+
+    fn clone(&self) -> Result<Name, AllocError> {
+        Name::new(self.as_slice()).ok_or(AllocError)
     }
 }

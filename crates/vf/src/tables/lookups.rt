@@ -1,5 +1,5 @@
-// Local fonts by number and packets by code: looked up, and entered as the file is read.
-ghost use Rattle.std.specs.Prelude.{◌≡◌, ◌<◌, length, None, ◌==◌, nat_le, slice_get, slice_index_or};
+// Local fonts by number and packets by code: looked up, and entered as the file is read; and a second value of the same tables.
+ghost use Rattle.std.specs.Prelude.{◌≡◌, ◌<◌, length, None, ◌==◌, nat_le, slice_get, slice_index_or, ⊤};
 ghost use Rattle.vf.specs.Fonts.{font_of, no_font, local_by, with_local, with_packet};
 
 use crate::entries::{Local, Packet};
@@ -7,6 +7,7 @@ use crate::packets::Coded;
 use crate::tables::Vf;
 use arrayvec::ArrayVec;
 use numbers::{Keyed, first_match};
+use std::alloc::AllocError;
 
 impl Keyed<u32> for Local {
     ghost has = { λ l k. (l.number == k) };
@@ -66,5 +67,23 @@ impl Vf {
         ensures { font_of self.new ≡ with_packet (font_of self.old) k }
     {
         self.packets[usize::from(k.code)] = Some(k.packet);
+    }
+}
+
+// It never fails.
+impl Clone for Vf {
+    ghost is_clone = { λ f copy. font_of copy ≡ font_of f };
+
+    ghost is_infallible = { λ _. ⊤ };
+
+    fn clone(&self) -> Result<Vf, AllocError> {
+        let mut locals = ArrayVec::new();
+        match locals.try_extend_from_slice(self.locals.as_slice()) {
+            Ok(()) => Ok(Vf {
+                locals,
+                packets: self.packets,
+            }),
+            Err(_) => Err(AllocError),
+        }
     }
 }

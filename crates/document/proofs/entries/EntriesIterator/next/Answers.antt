@@ -1,10 +1,10 @@
 -- The command that was read.
-use Rattle.std.proofs.Common.{arith, refl}
-use Rattle.document.proofs.Walks.{turns_at}
+use Rattle.std.proofs.Common.{◌≡◌, ◌+◌, ◌∙◌, arith, rules, ap, length}
+use Rattle.std.specs.Option.{option_map_or}
+use Rattle.document.proofs.Walks.{span-read, turns_at}
 use Rattle.document.proofs.entries.EntriesIterator.next.Goals as goal
 
-pub returns-in-Some-clause-steps : goal.returns-in-Some-clause-steps
-returns-in-Some-clause-steps c = turns_at _ _ _ _ (omega arith) c.width_at-width.ensures c.in-Some.ensures.is (omega arith)
-
-pub returns-in-None-clause-steps : goal.returns-in-None-clause-steps
-returns-in-None-clause-steps c = turns_at _ _ _ _ (omega arith) c.width_at-width.ensures c.in-None.ensures.is refl
+pub returns-clause-steps : goal.returns-clause-steps
+returns-clause-steps c =
+    let h : c.map_or.result ≡ option_map_or (λ d. c.width_at-width.result + 15 + length d.name.now) c.definition_at-d.result 1 = search rules in
+    turns_at _ _ _ _ (omega arith) c.width_at-width.ensures c.definition_at-d.ensures.is (ap (λ k. c.args.self.now.at + k) (h ∙ span-read _ _))
