@@ -9,7 +9,8 @@ use terminal::Output;
 use tfm::TfmShelf;
 
 // Each way in which shelves are put together is a case, since each is a type of its own. A `Box<dyn Shelf>` in their
-// place would be made here and handed out, which the checker refuses.
+// place would be made here and handed out, and a case with a rank over this type would lead back through the bound of
+// `Rank`, which has ghost members: the checker refuses both.
 #[derive(Drop)]
 pub enum Current {
     Tfm(TfmShelf),
