@@ -19,7 +19,7 @@ const NO_LINK: Link = Link {
 };
 
 // What a row asks for, how many entries its mark list has, and the marks and the width that come of it,
-// or the number of the refusal.
+// or the refusal by its number, as docs/REFUSALS.md lists them.
 struct Row {
     asked: Asked,
     room: usize,

@@ -10,6 +10,7 @@ use crate::parts::Command;
 use numbers::{signed_at, unsigned_at};
 
 // That a parameter ends within the bytes stands in each contract, since each is about another place of them.
+
 // The command that begins at `at`; none where the bytes end before it does.
 pub fn command_at(bytes: &[u8], at: usize) -> Option<(Command<'_>, usize)>
     ensures is { shape_of result ≡ command_at bytes.now at }

@@ -48,6 +48,7 @@ mark_v (Rule height width h v) = v
 abbrev pub moved_to : Pen → Mark → List ℕ
 moved_to pen m = move_bytes 142 (mark_h m -ℤ pen.h) ++ move_bytes 156 (mark_v m -ℤ pen.v)
 
+-- by cases, since std has no word for an Option that holds a given number
 abbrev pub is_last : Option ℕ → ℕ → Bool
 is_last None n = false
 is_last (Some m) n = m == n

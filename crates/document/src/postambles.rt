@@ -40,7 +40,7 @@ impl<'a> Postamble<'a> {
         Postamble { bytes, bare, post }
     }
 
-    // The place of one of its bytes. `as` as usize has no `From<u32>`; the check proves that it loses nothing.
+    // The place of one of its bytes. By `as`, since usize has no `From<u32>`; nothing is lost.
     fn place(&self, offset: u8) -> usize
         ensures { result ≡ self.now.post + offset }
     {
@@ -124,6 +124,7 @@ impl<'a> Postamble<'a> {
     {
         let mut limit = self.post;
         let mut place = self.place(1);
+        // So many pages, each found from the one behind it: there is nothing to go over.
         for _page in 0..self.pages() {
             let a = number(self.bytes, place, 4);
             if !self.leads_to(limit, a) {

@@ -13,6 +13,8 @@ use std::mem;
 // How many numbers a window has.
 const WINDOW: usize = 4_194_304;
 
+// The contracts here give the three parts of a walk to definitions that are about any bytes and places.
+
 // Where the first command stands that is neither a 138 nor a fair definition of a number not used before.
 // The end where there is none, and no Option, since each place found bounds the next walk.
 pub(crate) fn lawful_to(entries: Entries<'_>) -> usize
@@ -40,7 +42,8 @@ fn fair_to(entries: Entries<'_>) -> usize
     entries.to
 }
 
-// Where one of the N numbers from `lo` on is first used again; the end where none is.
+// Where one of the N numbers from `lo` on is first used again; the end where none is. Not one function with `fair_to`,
+// since each command is written into the table here.
 fn window<const N: usize>(entries: Entries<'_>, lo: usize) -> usize
     requires { N < 2 ^ 63 }
     ensures { result ≡ stop_at (again entries.entry.front.now lo (Some (lo + N))) entries.entry.front.now entries.entry.at entries.entry.to }
@@ -77,8 +80,8 @@ fn least(entries: Entries<'_>, lo: usize) -> Option<usize>
         .min()
 }
 
-// The font number that a command defines, if it is from `lo` on. A usize, as the places in a window's
-// table are: its bound stands in three contracts for that, and there is no conversion on the way to the table.
+// The font number that a command defines, if it is from `lo` on. It is a usize from `number_of` on, as an index of a
+// window's table is, so its bound stands in three contracts.
 fn number_from(definition: Option<Definition<'_>>, lo: usize) -> Option<usize>
     ensures value { result ≡ from_on lo (number_by (option_map defines definition.entry)) }
     ensures bound { IfSome result (λ n. (lo ≤ n) × (n < 2 ^ 32)) }

@@ -24,7 +24,7 @@ pub fn shelf_of(rt: &HostRuntime, fonts: &[Font]) -> Result<TfmShelf, Failure> {
     )
 }
 
-// Names and files one behind the other, and where each stands.
+// Names and files one behind the other, and where each stands, as `TfmShelf::new` takes them.
 #[derive(Drop)]
 struct Loaded {
     bytes: Vec<u8>,

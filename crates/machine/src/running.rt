@@ -57,10 +57,10 @@ impl<S: Shelf, B: Body> Level<'_, S, B> {
         ensures longer { IfOk result (λ t. 0 < t.length) }
         ensures within { IfOk result (λ t. at + t.length ≤ length self.now.bytes.now) }
     {
+        // By `let else` and `match` for the reason that `run` gives.
         let Some((command, length)) = command_at(self.bytes, at) else {
             return Err(pass_on(Cause::PastEnd.into(), self.body.link(at), chain));
         };
-        // By `match` for the reason that `run` gives.
         match self.step(command, m, chain, marks) {
             Ok((marks, on)) => Ok(Turn { marks, length, on }),
             Err(e) => Err(pass_on(e, self.body.link(at), chain)),

@@ -4,6 +4,9 @@ ghost use Rattle.numbers.specs.Bytes.{is_width, number, number_at, signed_at, si
 
 use crate::parts::part;
 
+// Bytes, a place and a width are three parameters: each call is about another place, and a struct of the three would be
+// made for one call and thrown away.
+
 // The unsigned number in the `width` bytes from `place` on; none where they end before, or for no such width.
 pub fn unsigned_at(bytes: &[u8], place: usize, width: usize) -> Option<u32>
     ensures value { result ≡ number_at bytes.now place width }

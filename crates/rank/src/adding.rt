@@ -48,6 +48,8 @@ fn no_room(files: usize, bytes: usize, fonts: u16, more: usize) -> bool
 }
 
 impl<S: Shelf> Rank<S> {
+    // What the rank means is written out in the contracts: a definition of specs/ cannot name the ghost members of `S`.
+
     // The name that a new font is given; none where it has not 1 to 63 bytes, or a font bears it already. It reads as the
     // TFM shelf's, but asks another table; what both share is `Name::new`, and a function for the rest would be as long.
     fn new_name(&self, bytes: &[u8]) -> Option<Name>
@@ -58,7 +60,8 @@ impl<S: Shelf> Rank<S> {
         self.find(bytes).is_none().then_some(name)
     }
 
-    // Puts a file behind the others; the memory for it is there.
+    // Puts a file behind the others; the memory for it is there. That the shelf below stays is a clause of each call here,
+    // and in no type, since it sets the rank after the call beside the one before.
     fn keep(&mut self, name: Name, file: &[u8], vf: Vf)
         requires few { length self.old.fonts.items < 8 }
         requires short { length self.old.bytes.items + length file.now ≤ 32768 }

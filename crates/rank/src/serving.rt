@@ -15,7 +15,7 @@ use numbers::{first_match, part};
 use shelf::{Asked, Count, Face, Link, Mark, Refusal, Shelf};
 
 impl<S: Shelf> Rank<S> {
-    // The fonts that find room above those below; all do, by what holds of every rank.
+    // The fonts that find room above those below; all do, by the ghost field `ok`.
     fn own(&self) -> &[Font]
         ensures fonts { result.now ≡ take (4096 - length (S.means self.now.below).names) self.now.fonts.items }
         ensures few { length (S.means self.now.below).names + length result.now ≤ 4096 }
@@ -48,7 +48,7 @@ impl<S: Shelf> Shelf for Rank<S> {
     }
 
     fn find(&self, name: &[u8]) -> Option<u16> {
-        // With `or_else`, and a closure that looks here, the proof did not close.
+        // With `or_else`, and a closure that looks in this rank, the proof did not close.
         if let Some(k) = self.below.find(name) {
             return Some(k);
         }

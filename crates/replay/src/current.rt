@@ -9,8 +9,8 @@ use terminal::Output;
 use tfm::TfmShelf;
 
 // Each way in which shelves are put together is a case, since each is a type of its own. A `Box<dyn Shelf>` in their
-// place would be made here and handed out, and a case with a rank over this type would lead back through the bound of
-// `Rank`, which has ghost members: the checker refuses both.
+// place cannot be made here and handed out, and a case with a rank over this type cannot be stated: it leads back
+// through the bound of `Rank`, which has ghost members.
 #[derive(Drop)]
 pub enum Current {
     Tfm(TfmShelf),
@@ -53,7 +53,7 @@ impl Current {
         }
     }
 
-    // Whether a rank can be put over this shelf.
+    // Whether a rank can be put over this shelf. Asked first: `ranked` takes the shelf, which a refusal must leave.
     pub fn takes_rank(&self) -> Result<(), Problem> {
         match self {
             Current::Tfm(_) | Current::Rank1(_) | Current::Rank2(_) | Current::Rank3(_) => Ok(()),

@@ -70,7 +70,7 @@ impl Query {
 // A character that is asked for by a code that no call may be given.
 #[derive(Clone, Copy)]
 pub struct AnyCode {
-    // what is asked for but for the code
+    // what is asked for but for the code, which counts once it is known to be one
     asked: Asked,
     code: i64,
 }

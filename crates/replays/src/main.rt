@@ -1,4 +1,4 @@
-// The program `dviflat` once more, since the gate runs a program once, with the same words each time: here over a script.
+// The program `dviflat` once more, since a program is run once with the same words each time: here over a script.
 #![tactic(auto)]
 
 use std::process::ExitCode;

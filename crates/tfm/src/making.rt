@@ -41,6 +41,7 @@ fn faces_of(bytes: &[u8], entries: &[Entry], heap: Global) -> Result<Vec<TfmFace
     ensures { Listed bytes.now entries.now result }
 {
     let mut faces = Vec::with_capacity(heap, entries.len())?;
+    // `k` goes into a refusal, and each face is held against those before it, so nothing collects them.
     for (k, e) in entries.iter().enumerate() {
         let face = face_of(bytes, faces.as_slice(), k, e)?;
         faces.push_reserved(face);

@@ -4,8 +4,8 @@ ghost use Rattle.tfm.specs.Unlike.{Unlike};
 
 use crate::faces::TfmFace;
 
-// The bytes as they were given, and the faces in the order of the entries. The faces hold places in the bytes, since the
-// caller gives all bytes once and the shelf keeps them: no slice can outlive the move.
+// The bytes as they were given, and the faces in the order of the entries. A face holds places in the
+// shelf's copy of the bytes: no struct can hold slices of its own vector.
 #[derive(Drop)]
 pub struct TfmShelf {
     pub(crate) bytes: Vec<u8>,

@@ -28,7 +28,8 @@ impl Words<'_> {
         self.each(|first| begins_fix_word(first))
     }
 
-    // Whether the first byte of each passes a test that the closure computes.
+    // Whether the first byte of each passes a test that the closure computes. By place, as the tables of the format are
+    // given: over `chunks` each clause would have to say again where a chunk stood.
     fn each<F: Fn(u8) -> bool>(&self, passes: F) -> bool
         requires { F.IsAlwaysCallable passes }
         ensures { (test : ℕ → Bool) → ((x : ℕ) (b : Bool) → F.post passes x b → b ≡ test x) → result ≡ every (λ i. test (slice_index self.now.file.now (self.now.from + 4 * i))) self.now.n }

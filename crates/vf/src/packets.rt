@@ -16,6 +16,7 @@ pub(crate) struct Coded {
 }
 
 // The bounds of places stand in the contracts below, and in no type, since each is about another place of the file.
+
 // The packet that begins at `at`; none where the file ends before it does, or where it is none.
 pub(crate) fn packet_at(file: &[u8], at: usize) -> Option<Coded>
     ensures is { result ≡ packet_at file.now at }

@@ -8,6 +8,7 @@ use arrayvec::ArrayVec;
 // A VF file has at most so many local fonts.
 const MAX_LOCALS: usize = 16;
 
+// `packets` has a place for each code, so that a code is its index; fixed memory.
 #[derive(Drop)]
 pub struct Vf {
     locals: ArrayVec<Local, MAX_LOCALS>,

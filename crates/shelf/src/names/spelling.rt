@@ -28,7 +28,7 @@ impl Name {
     }
 }
 
-// It never fails.
+// By hand, since none can be derived over ghost fields. It never fails.
 impl Clone for Name {
     ghost is_clone = { λ n copy. spelled copy ≡ spelled n };
 

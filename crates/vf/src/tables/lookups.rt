@@ -1,4 +1,4 @@
-// Local fonts by number and packets by code: looked up, and entered as the file is read; and a second value of the same tables.
+// Local fonts by number and packets by code: looked up, entered as the file is read, and copied.
 ghost use Rattle.std.specs.Prelude.{◌≡◌, ◌<◌, length, None, ◌==◌, nat_le, slice_get, slice_index_or, ⊤};
 ghost use Rattle.vf.specs.Fonts.{font_of, no_font, local_by, with_local, with_packet};
 
@@ -70,7 +70,7 @@ impl Vf {
     }
 }
 
-// It never fails.
+// By hand, since none can be derived over ghost fields. It never fails.
 impl Clone for Vf {
     ghost is_clone = { λ f copy. font_of copy ≡ font_of f };
 
@@ -78,12 +78,12 @@ impl Clone for Vf {
 
     fn clone(&self) -> Result<Vf, AllocError> {
         let mut locals = ArrayVec::new();
-        match locals.try_extend_from_slice(self.locals.as_slice()) {
-            Ok(()) => Ok(Vf {
-                locals,
-                packets: self.packets,
-            }),
-            Err(_) => Err(AllocError),
-        }
+        locals
+            .try_extend_from_slice(self.locals.as_slice())
+            .map_err(|_| AllocError)?;
+        Ok(Vf {
+            locals,
+            packets: self.packets,
+        })
     }
 }
