@@ -1,13 +1,14 @@
 // The calls that a shelf answers and that change nothing, whatever its layers are.
 use answers::{Lists, Told};
-use script::{Number, Problem};
+use reading::read;
+use script::{Number, Problem, Store};
 use shelf::{Asked, Cause, Refusal, Shelf};
 use std::alloc::{AllocError, Global};
 use terminal::Output;
 
 // Every shelf answers the same calls: they are a value, so that only `Current::ask` goes through the kinds of shelves.
 #[derive(Drop)]
-pub enum Query {
+pub enum Query<'a> {
     Count,
     Find(Vec<u8>),
     Face(u16),
@@ -17,10 +18,17 @@ pub enum Query {
         marks: usize,
         chain: usize,
     },
+    // The same for a page.
+    Read {
+        document: &'a [u8],
+        page: usize,
+        marks: usize,
+        chain: usize,
+    },
 }
 
-impl Query {
-    pub fn parse(words: &[&[u8]], heap: Global) -> Result<Query, Problem> {
+impl<'a> Query<'a> {
+    pub fn parse(words: &[&[u8]], store: &'a Store, heap: Global) -> Result<Query<'a>, Problem> {
         match words {
             [b"count"] => Ok(Query::Count),
             [b"find", name] => Ok(Query::Find(script::bytes(name, heap)?)),
@@ -30,6 +38,16 @@ impl Query {
                 marks: usize::spelled(marks)?,
                 chain: usize::spelled(chain)?,
             }),
+            [b"read", name, numbers @ ..] => {
+                let document = store.find(name)?;
+                let [page, marks, chain] = script::all::<usize, 3>(numbers)?;
+                Ok(Query::Read {
+                    document,
+                    page,
+                    marks,
+                    chain,
+                })
+            }
             _ => Err(Problem::WrongCount),
         }
     }
@@ -58,6 +76,26 @@ impl Query {
                 let mut lists = Lists::fresh(*marks, *chain, heap)?;
                 match asked.put_to(shelf, &mut lists) {
                     Ok((count, width)) => writeln!(out, "ok {count} {width}"),
+                    Err(refusal) => writeln!(out, "{}", Told(refusal)),
+                }
+                lists.tell(out);
+            }
+            Query::Read {
+                document,
+                page,
+                marks,
+                chain,
+            } => {
+                let mut lists = Lists::fresh(*marks, *chain, heap)?;
+                let read = read(
+                    document,
+                    *page,
+                    shelf,
+                    lists.chain.as_mut_slice(),
+                    lists.marks.as_mut_slice(),
+                );
+                match read {
+                    Ok(count) => writeln!(out, "ok {count}"),
                     Err(refusal) => writeln!(out, "{}", Told(refusal)),
                 }
                 lists.tell(out);

@@ -69,7 +69,7 @@ impl<'a> State<'a> {
             [b"rank"] => self.put_rank(),
             [b"add", name, id] => self.add_file(name, id),
             [b"alone"] => self.take_faces(),
-            [b"count" | b"find" | b"face" | b"character", ..] => self.ask(call),
+            [b"count" | b"find" | b"face" | b"character" | b"read", ..] => self.ask(call),
             [b"scale" | b"tfm" | b"rank" | b"add" | b"alone", ..] => Err(
                 Problem::WrongCount.into(),
             ),
@@ -128,7 +128,7 @@ impl<'a> State<'a> {
     fn ask(&mut self, call: &[&[u8]]) -> Result<(), Stop> {
         let heap = self.rt.alloc();
         let shelf = self.shelf.as_ref().ok_or(Problem::NoShelf)?;
-        let query = Query::parse(call, heap)?;
+        let query = Query::parse(call, &self.store, heap)?;
         Ok(shelf.ask(&query, heap, &mut self.out)?)
     }
 }
