@@ -1,0 +1,6 @@
+// Pages and the closing of a copy, written into an output.
+#![tactic(auto)]
+
+mod definitions;
+mod moves;
+mod pieces;
