@@ -3,4 +3,6 @@
 
 mod definitions;
 mod moves;
+mod outputs;
+mod pens;
 mod pieces;

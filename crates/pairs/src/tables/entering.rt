@@ -1,5 +1,5 @@
 // Pairs looked up, entered and forgotten.
-ghost use Rattle.std.specs.Prelude.{◌≡◌, ◌<◌, ◌≤◌, [], length, take, IfSome, IfErr, is_ok, slice_get};
+ghost use Rattle.std.specs.Prelude.{◌≡◌, ◌<◌, ◌≤◌, [], length, take, IfSome, IfErr, OnOk, is_ok, slice_get};
 ghost use Rattle.shelf.specs.declared.refusals.Refusal.TheVariants.{PairsFull};
 ghost use Rattle.copies.specs.Pairs.{pair_by};
 ghost use Rattle.pairs.specs.Tables.{pairs_of, entered_in, defined_before};
@@ -46,6 +46,7 @@ impl PairTable {
     pub fn find(&self, face: u16, size: u32) -> Option<usize>
         ensures value { result ≡ pair_by (pairs_of self.now) face size }
         ensures within { IfSome result (λ n. n < length (pairs_of self.now)) }
+        ensures few { IfSome result (λ n. n < 64) }
     {
         first_match(self.as_slice(), (face, size))
     }
@@ -61,6 +62,7 @@ impl PairTable {
     pub fn enter(&mut self, pair: Pair) -> Result<(), Refusal>
         ensures entered { (is_ok result, pairs_of self.new) ≡ entered_in (pairs_of self.old) pair }
         ensures full { IfErr result (λ e. e ≡ PairsFull) }
+        ensures room { OnOk result (length (pairs_of self.old) < 64) }
     {
         if self.count >= MAX_PAIRS {
             return Err(Refusal::PairsFull);
