@@ -57,7 +57,7 @@ module _ (m : Meaning) (law : Lawful m) (o : Opening) (ps : List Page) (w : Writ
       let good = all-at (GoodPair m) now.pairs i p (progress-pairs F m ps w.good) is in
       let f = some_there (slice_get m.faces p.face) good.1 in
       let by : font_by s (statement F o ps) i ≡ Some (defined_by i p.size (F p.face)) =
-      font-found m law (take (end_of F now) s) now.pairs (now.used + 29) 0 [] (progress-pairs F m ps w.good) w.few-pairs (fonts-last F o ps w.counted) i i p refl is in
+      font-found m law (take (end_of F now) s) now.pairs (now.used + 29) 0 [] (progress-pairs F m ps w.good) (omega (arith, w.few-pairs)) (fonts-last F o ps w.counted) i i p (omega arith) is in
       let name : (F p.face).name ≡ f.0.facts.name = ap (λ (x : Facts). x.name) (facts_are m p.face f.0 f.1) in
       ap (chosen_in (faces_alone m).names) by
       ∙ ap (λ x. at_size x p.size) (ap (found_in (faces_alone m).names) name ∙ face-found m law p.face f.0 f.1)

@@ -2,7 +2,6 @@
 ghost use Rattle.closedfiles.specs.Closed.{ClosedFilesRead};
 
 // The closed file of a copy is legal, and each page reads as the marks and counts that it was written from.
-#[tactic(auto, using(crate::proofs::Pages::all_read))]
 pub fn closed_files_read()
     ensures { ClosedFilesRead }
 {}

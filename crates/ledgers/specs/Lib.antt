@@ -1,0 +1,5 @@
+pub mod Sources
+pub mod Rules
+pub mod Steps
+pub mod Ledgers
+pub mod Histories
