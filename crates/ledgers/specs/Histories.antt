@@ -1,5 +1,5 @@
 -- The law over whole histories: what a run is after any calls, and what its closed file says.
-use Rattle.std.specs.Prelude.{◌≡◌, ℕ, ◌-◌, ◌<◌, ◌≤◌, List, [], ◌∷◌, length, take, Some, None, Ok, Err, Option, Result}
+use Rattle.std.specs.Prelude.{◌≡◌, ℕ, ◌-◌, ◌<◌, ◌≤◌, List, [], ◌∷◌, length, take, Some, None, Ok, Err, Option, Result, slice_index}
 use Rattle.std.specs.List.{AllByRecursion, slice_get}
 use Rattle.shelf.specs.declared.refusals.Refusal.{Refusal}
 use Rattle.shelf.specs.Alone.{faces_alone}
@@ -26,11 +26,15 @@ in_use None = 0
 abbrev pub used : View → ℕ
 used v = in_use v.come
 
+-- every number is a byte's
+abbrev pub AreBytes : List ℕ → Type 0
+AreBytes bs = (i : ℕ) → slice_index bs i < 256
+
 -- What a run has been through that was opened, over a shelf of this meaning, with this opening: its calls and their answers, the
 -- newest first, what it now is, and what its output holds.
 pub data History (m : Meaning) (o : Opening) : List Call → List Answer → View → List ℕ → Type 0 where
   -- it was opened on a document
-  opened : (document out : List ℕ) (d : Document) (v : View) → legal document ≡ Ok d → opening_by d ≡ o → (beginning m document out).run ≡ Ok v → History m o [] [] v (beginning m document out).out
+  opened : (document out : List ℕ) (d : Document) (v : View) → AreBytes document → legal document ≡ Ok d → opening_by d ≡ o → (beginning m document out).run ≡ Ok v → History m o [] [] v (beginning m document out).out
   -- a call was made with the output as it was left
   called : {cs : List Call} {as' : List Answer} {v : View} {out : List ℕ} → History m o cs as' v out → (c : Act) → History m o (record { act = c; room = length out } ∷ cs) ((stepped v c out).answer ∷ as') (stepped v c out).run (stepped v c out).out
   -- the caller goes on with another output that holds the run's bytes

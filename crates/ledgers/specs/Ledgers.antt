@@ -12,7 +12,7 @@ use Rattle.ledgers.specs.Steps.{Act, copy, strike, close, Answer, done, long, re
 
 pub record Ledger : Type 0 where
   pub sources : List Source
-  pub open : Bool
+  pub running : Bool
 
 -- a call, and the length of the output that it was given
 pub record Call : Type 0 where
@@ -38,7 +38,7 @@ ruled_open m o g close room = ruling (long (closed_length (faces_of m) o g)) (cl
 
 -- what the rules answer to a call
 abbrev pub ruled : Meaning → Opening → Ledger → Act → ℕ → Answer
-ruled m o b c room = cond b.open (ruled_open m o (come_by m o b.sources) c room) (refused RunClosed)
+ruled m o b c room = cond b.running (ruled_open m o (come_by m o b.sources) c room) (refused RunClosed)
 
 abbrev pub struck : List Source → List Source
 struck [] = []
@@ -47,16 +47,16 @@ struck (s ∷ es) = es
 -- an accepted copy puts its own last, an accepted strike takes the last off
 abbrev pub booked : Ledger → Act → Answer → Ledger
 booked b c (refused e) = b
-booked b (copy s marks) done = record { sources = s ∷ b.sources; open = b.open }
+booked b (copy s marks) done = record { sources = s ∷ b.sources; running = b.running }
 booked b (copy s marks) (long n) = b
-booked b strike done = record { sources = struck b.sources; open = b.open }
+booked b strike done = record { sources = struck b.sources; running = b.running }
 booked b strike (long n) = b
 booked b close done = b
-booked b close (long n) = record { sources = b.sources; open = false }
+booked b close (long n) = record { sources = b.sources; running = false }
 
 -- the ledger after these calls, the newest first
 unfoldable pub ledger : Meaning → Opening → List Call → Ledger
-ledger m o [] = record { sources = []; open = true }
+ledger m o [] = record { sources = []; running = true }
 ledger m o (c ∷ cs) = booked (ledger m o cs) c.act (ruled m o (ledger m o cs) c.act c.room)
 
 -- what the rules answer to each
