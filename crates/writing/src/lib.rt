@@ -4,5 +4,9 @@
 mod definitions;
 mod moves;
 mod outputs;
+mod passing;
 mod pens;
 mod pieces;
+mod standings;
+
+pub use standings::Standing;
