@@ -1,3 +1,5 @@
+pub mod Overwrites
 pub mod Passed
 pub mod Scratch
 pub mod ShortNames
+pub mod Written
