@@ -1,3 +1,5 @@
+pub mod Endings
+pub mod FontBytes
 pub mod Overwrites
 pub mod Passed
 pub mod Scratch

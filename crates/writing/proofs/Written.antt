@@ -54,11 +54,11 @@ module _ (F : ℕ → Facts) (first : Pen) (ms : List Mark) (was : List ℕ) (ro
       record {
         onward = onward_more F first ms i pen next d names lt e w.onward;
         over =
-        ap (λ (q : Pen). overwritten q.at (marks_bytes F q (drop (i + 1) ms)) new) e
-        ∙ ap (overwritten after.at rest) p
-        ∙ over_more pen.at after.at (mark_bytes F pen m) rest out (at_after F pen m) fits
-        ∙ ap (λ x. overwritten pen.at x out) (sym all)
-        ∙ w.over;
+            ap (λ (q : Pen). overwritten q.at (marks_bytes F q (drop (i + 1) ms)) new) e
+            ∙ ap (overwritten after.at rest) p
+            ∙ over_more pen.at after.at (mark_bytes F pen m) rest out (at_after F pen m) fits
+            ∙ ap (λ x. overwritten pen.at x out) (sym all)
+            ∙ w.over;
         long = ap length p ∙ length_over pen.at (mark_bytes F pen m) out (omega (arith, at_after F pen m, fits)) ∙ w.long;
       }
 

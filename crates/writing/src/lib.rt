@@ -1,7 +1,9 @@
 // Pages and the closing of a copy, written into an output.
 #![tactic(auto)]
 
+mod closings;
 mod definitions;
+mod fonts;
 mod moves;
 mod outputs;
 mod passing;
@@ -9,4 +11,5 @@ mod pens;
 mod pieces;
 mod standings;
 
-pub use standings::Standing;
+pub use closings::{append_closing, closed_length};
+pub use standings::{Opening, Standing};
