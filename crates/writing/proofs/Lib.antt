@@ -1,2 +1,7 @@
+pub mod Endings
+pub mod FontBytes
+pub mod Overwrites
+pub mod Passed
 pub mod Scratch
 pub mod ShortNames
+pub mod Written

@@ -2,7 +2,7 @@
 ghost use Rattle.std.specs.Prelude.{◌≡◌, ◌+◌, ◌^◌, ◌<◌, ◌≤◌, ◌++◌, length, ◌-ℤ◌, unsigned_abs, IfOk, IfErr, OnErr};
 ghost use Rattle.shelf.specs.declared.refusals.Refusal.TheVariants.{PairsFull};
 ghost use Rattle.copies.specs.Pairs.{pair_by, numbered, entered};
-ghost use Rattle.copies.specs.Marks.{faces_of, mark_h, mark_v, move_bytes, font_bytes, mark_bytes, pairs_after, pen_after};
+ghost use Rattle.copies.specs.Marks.{faces_of, mark_h, mark_v, move_bytes, font_bytes, mark_bytes, pen_after};
 ghost use Rattle.pairs.specs.Tables.{pairs_of};
 ghost use Rattle.writing.specs.Pieces.{made};
 ghost use Rattle.writing.specs.Pens.{pen_of};
@@ -73,7 +73,7 @@ impl Pen {
         requires { self.at + 92 < 2 ^ 64 }
         ensures done { IfOk result (λ r. (made r.1 ≡ mark_bytes (faces_of (S.means shelf.now)) (pen_of self (pairs_of table.old)) mark)
             × (pen_of r.0 (pairs_of table.new) ≡ pen_after (faces_of (S.means shelf.now)) (pen_of self (pairs_of table.old)) mark)) }
-        ensures full { IfErr result (λ e. (e ≡ PairsFull) × (64 < length (pairs_after (pen_of self (pairs_of table.old)) mark)) × (pairs_of table.new ≡ pairs_of table.old)) }
+        ensures full { IfErr result (λ e. (e ≡ PairsFull) × (64 < length (pen_after (faces_of (S.means shelf.now)) (pen_of self (pairs_of table.old)) mark).pairs) × (pairs_of table.new ≡ pairs_of table.old)) }
     {
         let piece = self.moved_to(mark);
         match mark {
