@@ -1,5 +1,5 @@
 -- Reading a page: a document's page n, run over a shelf.
-use Rattle.std.specs.Prelude.{◌≡◌, ℕ, ◌+◌, true, cond, List, [], take, drop, pos, Some, None, Ok, Err, Option, Result}
+use Rattle.std.specs.Prelude.{◌≡◌, ℕ, ◌+◌, true, cond, List, [], length, take, drop, nat_le, pos, Some, None, Ok, Err, Option, Result}
 use Rattle.std.specs.Option.{option_map, ok_or}
 use Rattle.numbers.specs.Lengths.{good_size}
 use Rattle.shelf.specs.declared.marks.Link.{Link}
@@ -73,3 +73,11 @@ Served (Ok o) chain chain' marks marks' r = Answered o chain chain' marks marks'
 -- the ten counts of the page whose 139 stands at a, as bytes
 abbrev pub counts_at : List ℕ → ℕ → List ℕ
 counts_at bs a = take 40 (drop (a + 1) bs)
+
+abbrev pub counts_by : List ℕ → Option ℕ → Option (List ℕ)
+counts_by bs None = None
+counts_by bs (Some a) = cond (nat_le (a + 41) (length bs)) (Some (counts_at bs a)) None
+
+-- the ten counts of page n, where there is one and its counts stand there
+abbrev pub counts_of : List ℕ → Document → ℕ → Option (List ℕ)
+counts_of bs d n = counts_by bs (page_place bs d n)

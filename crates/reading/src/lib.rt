@@ -2,6 +2,8 @@
 #![tactic(auto)]
 
 mod bodies;
+mod counts;
 mod pages;
 
+pub use counts::counts_of;
 pub use pages::{read, read_page};
