@@ -21,6 +21,15 @@ impl<'a> PairGuard<'a> {
         PairGuard { table, count }
     }
 
+    // Puts the count back already now, and guards on.
+    pub fn put_back(&mut self)
+        ensures same_reference { self.new.table.ghost_name ≡ self.old.table.ghost_name }
+        ensures table { pairs_of self.new.table.now ≡ take self.old.count (pairs_of self.old.table.now) }
+        ensures count { self.new.count ≡ self.old.count }
+    {
+        self.table.truncate(self.count);
+    }
+
     // The pairs that are there now stay.
     pub fn keep(self)
         ensures { self.exit.0.now ≡ self.entry.table.now }

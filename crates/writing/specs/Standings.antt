@@ -12,6 +12,10 @@ opening_of o = record { mag = o.mag; l = o.l; u = o.u }
 abbrev pub progress_of : Standing → List Pair → Progress
 progress_of s ps = record { used = s.used; last = s.last; count = s.pages; pairs = ps }
 
+-- what is answered of the progress; the pairs stand in the table
+abbrev pub standing_of : Progress → Standing
+standing_of g = record { used = g.used; last = g.last; pages = g.count }
+
 -- how many bytes of an output may be used
 abbrev pub room : List ℕ → ℕ
 room out = min (length out) 16777216

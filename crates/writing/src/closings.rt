@@ -16,9 +16,9 @@ use pairs::PairTable;
 use shelf::{Refusal, Shelf};
 
 // A length counts 1/65,536 point: 25,400,000 / 473,628,672 of 10^-7 metres.
-const NUM: u32 = 25_400_000;
+pub(crate) const NUM: u32 = 25_400_000;
 
-const DEN: u32 = 473_628_672;
+pub(crate) const DEN: u32 = 473_628_672;
 
 // A copy uses no more bytes of its output.
 const MAX_USED: usize = 16_777_216;
@@ -52,7 +52,7 @@ fn postamble(opening: Opening, standing: Standing) -> Piece
 
 // How many bytes 223 stand behind n bytes.
 fn filled(n: usize) -> usize
-    requires { n < 2 ^ 63 }
+    requires { n + 3 < 2 ^ 64 }
     ensures value { result ≡ padding n }
     ensures most { result ≤ 7 }
 {
@@ -62,7 +62,7 @@ fn filled(n: usize) -> usize
 // 249, the place of the 248, 2, and bytes 223 behind n bytes.
 #[tactic(auto, unfolding(copies::specs::Files::end_bytes))]
 fn ending(post: u32, n: usize) -> Piece
-    requires { n < 2 ^ 62 }
+    requires { n + 9 < 2 ^ 64 }
     ensures { made result ≡ end_bytes post n }
 {
     let fill = [223; 7];
@@ -75,7 +75,7 @@ fn ending(post: u32, n: usize) -> Piece
 
 // The length of a copy that is closed when so many bytes are used; it is the same for each opening and each count of pages.
 pub(crate) fn closed_at<S: Shelf>(shelf: &S, table: &PairTable, used: usize) -> usize
-    requires { used < 2 ^ 62 }
+    requires { used ≤ 2 ^ 63 }
     ensures value { (o : Opened) (last count : ℕ) → result ≡ closed_length (faces_of (S.means shelf.now)) o (record { used = used; last = last; count = count; pairs = pairs_of table.now }) }
     ensures more { used + 35 ≤ result }
 {

@@ -21,6 +21,8 @@ pub(crate) fn pass_over<S: Shelf>(
     requires { pen.at < 2 ^ 33 }
     ensures done { IfOk result (λ p. pen_of p (pairs_of table.new) ≡ pen_after_all (faces_of (S.means shelf.now)) (pen_of pen (pairs_of table.old)) marks.now) }
     ensures full { IfErr result (λ e. (e ≡ PairsFull) × (64 < length (pen_after_all (faces_of (S.means shelf.now)) (pen_of pen (pairs_of table.old)) marks.now).pairs)) }
+    ensures few { OnOk result (length (pen_after_all (faces_of (S.means shelf.now)) (pen_of pen (pairs_of table.old)) marks.now).pairs ≤ 64) }
+    ensures near { IfOk result (λ p. p.at < 2 ^ 63) }
     ensures kept { take (length (pairs_of table.old)) (pairs_of table.new) ≡ pairs_of table.old }
 {
     for mark in marks {

@@ -1,17 +1,24 @@
 // The pen of a page: where its writer stands, and the bytes of each mark from there.
-ghost use Rattle.std.specs.Prelude.{◌≡◌, ◌+◌, ◌^◌, ◌<◌, ◌≤◌, ◌++◌, length, ◌-ℤ◌, unsigned_abs, IfOk, IfErr, OnErr};
+ghost use Rattle.std.specs.Prelude.{◌≡◌, ◌+◌, ◌^◌, ◌<◌, ◌≤◌, ◌++◌, List, length, ◌-ℤ◌, unsigned_abs, IfOk, IfErr, OnErr};
 ghost use Rattle.shelf.specs.declared.refusals.Refusal.TheVariants.{PairsFull};
+ghost use Rattle.copies.specs.declared.pairs.Pair.{Pair as Entry};
+ghost use Rattle.copies.specs.Pages.{page_pen};
 ghost use Rattle.copies.specs.Pairs.{pair_by, numbered, entered};
 ghost use Rattle.copies.specs.Marks.{faces_of, mark_h, mark_v, move_bytes, font_bytes, mark_bytes, pen_after};
 ghost use Rattle.pairs.specs.Tables.{pairs_of};
 ghost use Rattle.writing.specs.Pieces.{made};
 ghost use Rattle.writing.specs.Pens.{pen_of};
+ghost use Rattle.writing.specs.Standings.{progress_of};
 
 use crate::definitions::told;
 use crate::pieces::Piece;
+use crate::standings::Standing;
 use copies::Pair;
 use pairs::PairTable;
 use shelf::{Mark, Refusal, Shelf};
+
+// A page's marks stand behind its 139, ten counts and a pointer of four bytes each.
+const PAGE_FRONT: usize = 45;
 
 const RIGHT: u8 = 142;
 
@@ -27,6 +34,19 @@ pub(crate) struct Pen {
 }
 
 impl Pen {
+    // The pen of a page that is put behind the bytes used.
+    pub(crate) fn of_page(standing: Standing) -> Pen
+        ensures pen { (ps : List Entry) → pen_of result ps ≡ page_pen (progress_of standing ps) }
+        ensures near { result.at < 2 ^ 33 }
+    {
+        Pen {
+            h: 0,
+            v: 0,
+            last: None,
+            at: standing.used as usize + PAGE_FRONT,
+        }
+    }
+
     // The move to a mark.
     fn moved_to(self, mark: Mark) -> Piece
         ensures made { made result ≡ move_bytes 142 (mark_h mark -ℤ self.h) ++ move_bytes 156 (mark_v mark -ℤ self.v) }

@@ -27,9 +27,9 @@ returns g c =
     let fits : closed_length F o p ≤ room c.args.out.now = omega (arith, n) in
     closes F o p c.args.out.now c.write_over-2.new.out c.closed_length-length.result fits n
     (laid F o p c.args.out.now c.write_over.new.out c.write_fonts-end.new.out c.write_over-2.new.out c.as_slice.result.now c.as_slice-3.result.now c.write_fonts-end.result (omega (arith, fits))
-      (c.as_slice.ensures.value ∙ c.postamble-post.ensures.made (pairs_of c.args.table.now))
-      c.write_over.ensures
-      (c.write_fonts-end.ensures.written ∙ ap (λ ps. overwritten (c.args.standing.used + 29) (fonts_bytes F 0 ps) c.write_over.new.out) c.as_slice-2.ensures.value)
-      (c.write_fonts-end.ensures.after ∙ ap (λ ps. c.args.standing.used + 29 + length (fonts_bytes F 0 ps)) c.as_slice-2.ensures.value)
-      (c.as_slice-3.ensures.value ∙ c.ending-last.ensures)
-      c.write_over-2.ensures)
+    (c.as_slice.ensures.value ∙ c.postamble-post.ensures.made (pairs_of c.args.table.now))
+    c.write_over.ensures
+    (c.write_fonts-end.ensures.written ∙ ap (λ ps. overwritten (c.args.standing.used + 29) (fonts_bytes F 0 ps) c.write_over.new.out) c.as_slice-2.ensures.value)
+    (c.write_fonts-end.ensures.after ∙ ap (λ ps. c.args.standing.used + 29 + length (fonts_bytes F 0 ps)) c.as_slice-2.ensures.value)
+    (c.as_slice-3.ensures.value ∙ c.ending-last.ensures)
+    c.write_over-2.ensures)

@@ -1,5 +1,7 @@
+use Rattle.std.proofs.Common.{◌≤◌, length, ap, arith}
+use Rattle.std.proofs.lemmas.List.{length-take}
 use Rattle.std.proofs.lemmas.Result.{err_from_is_err_and}
-use Rattle.copies.specs.Marks.{faces_of}
+use Rattle.copies.specs.Marks.{Pen, faces_of}
 use Rattle.writing.proofs.Passed.{onward_more, onward-all, onward-full}
 use Rattle.writing.proofs.ShortNames.{short_name}
 use Rattle.writing.proofs.passing.pass_over.Goals as goal
@@ -17,3 +19,8 @@ loop-mark-preserved g c =
 
 pub returns-clause-done : goal.returns-clause-done
 returns-clause-done g c = onward-all _ _ _ _ _ c.loop-mark-test.false c.loop-mark.invariant
+
+pub returns-clause-few : goal.returns-clause-few
+returns-clause-few g c =
+    let all = onward-all _ _ _ _ _ c.loop-mark-test.false c.loop-mark.invariant in
+    omega (arith, ap (λ (p : Pen). length p.pairs) all, length-take c.loop-mark.table.count c.loop-mark.table.pairs)

@@ -1,4 +1,3 @@
-use Rattle.std.proofs.Common.{ap, ◌∙◌}
 use Rattle.std.proofs.lemmas.Result.{err_from_is_err_and}
 use Rattle.copies.specs.Marks.{faces_of}
 use Rattle.writing.proofs.Passed.{onward-all, onward-full}
@@ -14,13 +13,13 @@ returns-in_err-next-clause-full g c =
 
 pub write_over-requires : goal.write_over-requires
 write_over-requires g c =
-    mark_room (faces_of (g.S.Shelf.means c.args.shelf.now)) _ _ _ c.requires.room _ _ _ _ _ c.loop-mark-test.true (c.as_slice.ensures.value ∙ c.in_ok-next.ensures.done.0) c.loop-mark.invariant
+    mark_room (faces_of (g.S.Shelf.means c.args.shelf.now)) _ _ _ c.requires.room _ _ _ _ _ _ c.loop-mark-test.true c.as_slice.ensures.value c.in_ok-next.ensures.done.0 c.loop-mark.invariant
 
 pub loop-mark-preserved : goal.loop-mark-preserved
 loop-mark-preserved g c =
     let m = g.S.Shelf.means c.args.shelf.now in
     let done = c.in_ok-next.ensures.done in
-    written_more (faces_of m) _ _ _ c.requires.room _ _ _ _ _ _ _ (λ k. short_name m k (g.met.S.Shelf.lawful c.args.shelf.now)) c.loop-mark-test.true (c.as_slice.ensures.value ∙ done.0) done.1 c.write_over.ensures c.loop-mark.invariant
+    written_more (faces_of m) _ _ _ c.requires.room _ _ _ _ _ _ _ _ (λ k. short_name m k (g.met.S.Shelf.lawful c.args.shelf.now)) c.loop-mark-test.true c.as_slice.ensures.value done.0 done.1 c.write_over.ensures c.loop-mark.invariant
 
 pub returns-clause-done : goal.returns-clause-done
 returns-clause-done g c = onward-all _ _ _ _ _ c.loop-mark-test.false c.loop-mark.invariant.onward
