@@ -3,3 +3,4 @@ pub mod Marks
 pub mod Pages
 pub mod Files
 pub mod Writing
+pub mod Limits

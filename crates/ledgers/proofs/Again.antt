@@ -25,7 +25,8 @@ use Rattle.readback.proofs.Pairs.{Grown, Between}
 use Rattle.readback.proofs.Pages.{page-used, page_places}
 use Rattle.closedfiles.specs.Closed.{statement}
 use Rattle.ledgers.specs.Sources.{Source, at_mag, sourced, unread, place_by, marks_by, page_of}
-use Rattle.ledgers.specs.Rules.{usable, unfit, overfull, too_short, with_source, copy_refusal, close_refusal}
+use Rattle.copies.specs.Limits.{usable, unfit, overfull}
+use Rattle.ledgers.specs.Rules.{too_short, with_source, copy_refusal, close_refusal}
 use Rattle.ledgers.specs.Steps.{View, Act, copy, close, Answer, done, long, refused, Seen, stepped}
 use Rattle.ledgers.specs.Ledgers.{Ledger, Call, pages_of, come_by, ruling, ruled, booked, ledger, rulings}
 use Rattle.ledgers.specs.Histories.{History, SameRead, ClosedFile, PageByPage}
@@ -161,8 +162,8 @@ module _ (m : Meaning) (o : Opening) where
         let next : with_source alone o (come_by alone o (from_file es)) src ≡ come_by m o (s ∷ es) = come_more alone o (from_file es) src ∙ come-again pre (s ∷ es) e in
         let a : too_short (come_by alone o (from_file es)) room ≡ None = ap (λ (x : Progress). too_short x room) g ∙ rw (le-ltb room (come_by m o es).used (omega arith)) refl in
         let b = unread-none (length (s ∷ es)) s same marks h in
-        let c : overfull F o (with_source alone o (come_by alone o (from_file es)) src) room ≡ None =
-        ap (λ (x : Progress). overfull F o x room) next
+        let c : overfull F o (with_source alone o (come_by alone o (from_file es)) src) (usable room) ≡ None =
+        ap (λ (x : Progress). overfull F o x (usable room)) next
         ∙ rw (le-ltb 64 (length (come_by m o (s ∷ es)).pairs) pairs, le-ltb 65535 (come_by m o (s ∷ es)).count count, le-ltb (usable room) (closed_length F o (come_by m o (s ∷ es))) (omega arith)) refl in
         rw (a, b, c) refl
 

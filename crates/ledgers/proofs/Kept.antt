@@ -25,7 +25,8 @@ use Rattle.readback.specs.Reading.{Counted, GoodPage}
 use Rattle.readback.proofs.Pages.{length-body, page-count}
 use Rattle.closedfiles.specs.Closed.{Writable}
 use Rattle.ledgers.specs.Sources.{Source, at_mag, sourced, unread, place_by, marks_by, page_of}
-use Rattle.ledgers.specs.Rules.{usable, unfit, overfull, too_short, with_source, copy_refusal}
+use Rattle.copies.specs.Limits.{usable, unfit, overfull}
+use Rattle.ledgers.specs.Rules.{too_short, with_source, copy_refusal}
 use Rattle.ledgers.specs.Ledgers.{pages_of, come_by}
 use Rattle.ledgers.proofs.Documents.{page_stands}
 
@@ -36,6 +37,10 @@ or_none (Some x) b e = absurd (let z : ◌≡◌ {A = ℕ} 0 1 = cc in omega ari
 pub passed_test : {X : Type 0} (b : Bool) (x : X) (o : Option X) → cond b (Some x) o ≡ None → (b ≡ false) × (o ≡ None)
 passed_test true x o e = absurd (let z : ◌≡◌ {A = ℕ} 0 1 = cc in omega arith)
 passed_test false x o e = (refl, e)
+
+neither : (a b : Bool) → (a || b) ≡ false → (a ≡ false) × (b ≡ false)
+neither true b e = absurd (let z : ◌≡◌ {A = ℕ} 0 1 = cc in omega arith)
+neither false b e = (refl, e)
 
 -- a source that is not refused was read in full
 read-whole : (r : Result (Outcome (Unit {0})) Refusal) (room : ℕ) → unread r room ≡ None → r ≡ Ok (ends (marks_by r) (well tt))
@@ -107,24 +112,39 @@ module _ (m : Meaning) (o : Opening) where
   unfolding progress
   come_more es s = refl
 
-  pub fits_of : (F : ℕ → Facts) (g : Progress) (room : ℕ) → unfit F o g room ≡ None → closed_length F o g ≤ usable room
-  fits_of F g room e = ltb-false (usable room) (closed_length F o g) (passed_test _ OutputFull None e).0
+  pub fits_of : (F : ℕ → Facts) (g : Progress) (bytes : ℕ) → unfit F o g bytes ≡ None → closed_length F o g ≤ bytes
+  fits_of F g bytes e = ltb-false bytes (closed_length F o g) (passed_test _ OutputFull None e).0
+
+  -- what is not too much
+  pub record Fits (F : ℕ → Facts) (g : Progress) (bytes : ℕ) : Type 0 where
+    pub few-pairs : length g.pairs ≤ 64
+    pub few-pages : g.count ≤ 65535
+    pub short : closed_length F o g ≤ bytes
+
+  pub fits_in : (F : ℕ → Facts) (g : Progress) (bytes : ℕ) → overfull F o g bytes ≡ None → Fits F g bytes
+  fits_in F g bytes e =
+      let p = passed_test (nat_lt 64 (length g.pairs)) PairsFull _ e in
+      let q = passed_test (nat_lt 65535 g.count || nat_lt bytes (closed_length F o g)) OutputFull None p.1 in
+      let b = neither (nat_lt 65535 g.count) (nat_lt bytes (closed_length F o g)) q.0 in
+      record {
+        few-pairs = ltb-false 64 (length g.pairs) p.0;
+        few-pages = ltb-false 65535 g.count b.0;
+        short = ltb-false bytes (closed_length F o g) b.1;
+      }
+
+  -- what a copy that is not refused came to
+  pub fitted : (es : List Source) (s : Source) (marks room : ℕ) → copy_refusal m o (come_by m o es) s marks room ≡ None → (unread (sourced o.mag m s) marks ≡ None) × Fits (faces_of m) (come_by m o (s ∷ es)) (usable room)
+  fitted es s marks room e =
+      let g = come_by m o (s ∷ es) in
+      let a = or_none (too_short (come_by m o es) room) _ e in
+      let b = or_none (unread (sourced o.mag m s) marks) (overfull (faces_of m) o (with_source m o (come_by m o es) s) (usable room)) a.1 in
+      (b.0, fits_in (faces_of m) g (usable room) (ap (λ x. overfull (faces_of m) o x (usable room)) (sym (come_more es s)) ∙ b.1))
 
   pub taken : (es : List Source) (s : Source) (marks room : ℕ) → copy_refusal m o (come_by m o es) s marks room ≡ None → Taken es s
   taken es s marks room e =
-      let g = come_by m o (s ∷ es) in
-      let a = or_none (too_short (come_by m o es) room) _ e in
-      let b = or_none (unread (sourced o.mag m s) marks) (overfull (faces_of m) o (with_source m o (come_by m o es) s) room) a.1 in
-      let c : overfull (faces_of m) o g room ≡ None = ap (λ x. overfull (faces_of m) o x room) (sym (come_more es s)) ∙ b.1 in
-      let p = passed_test (nat_lt 64 (length g.pairs)) PairsFull _ c in
-      let q = passed_test (nat_lt 65535 g.count) OutputFull _ p.1 in
-      let f = fits_of (faces_of m) g room q.1 in
-      record {
-        read = read-whole (sourced o.mag m s) marks b.0;
-        few-pairs = ltb-false 64 (length g.pairs) p.0;
-        few-pages = ltb-false 65535 g.count q.0;
-        short = omega (arith, f);
-      }
+      let f = fitted es s marks room e in
+      let short = f.1.short in
+      record { read = read-whole (sourced o.mag m s) marks f.0; few-pairs = f.1.few-pairs; few-pages = f.1.few-pages; short = omega arith }
 
   pub all-counted : (es : List Source) → Kept es → AllByRecursion Counted (pages_of m o es)
   all-counted [] k = tt

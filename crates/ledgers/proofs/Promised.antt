@@ -18,7 +18,8 @@ use Rattle.copies.specs.Writing.{overwritten}
 use Rattle.closedfiles.specs.Closed.{Writable, Reads, statement}
 use Rattle.closedfiles.proofs.Pages.{all_read}
 use Rattle.ledgers.specs.Sources.{Source, sourced, page_of}
-use Rattle.ledgers.specs.Rules.{usable, unfit, too_short, close_refusal}
+use Rattle.copies.specs.Limits.{usable, unfit}
+use Rattle.ledgers.specs.Rules.{too_short, close_refusal}
 use Rattle.ledgers.specs.Steps.{View, Act, close, Answer, done, long, refused, Seen, seen, unless, moved_on, stepped}
 use Rattle.ledgers.specs.Ledgers.{Ledger, Call, pages_of, come_by, ruling, ruled, ledger, rulings}
 use Rattle.ledgers.specs.Histories.{used, History, SameRead, ClosedFile}
@@ -85,8 +86,8 @@ module _ (m : Meaning) (o : Opening) where
   unfolding closed
   ends_whole es v out k h e n p =
       let g = come_by m o es in
-      let a = or_none (too_short g (length out)) (unfit F o g (length out)) e in
-      let f = fits_of m o F g (length out) a.1 in
+      let a = or_none (too_short g (length out)) (unfit F o g (usable (length out))) e in
+      let f = fits_of m o F g (usable (length out)) a.1 in
       let is : n ≡ closed_length F o g = cc in
       record {
         length-is = is;

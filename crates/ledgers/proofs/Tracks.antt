@@ -22,13 +22,13 @@ use Rattle.readback.specs.Reading.{Counted}
 use Rattle.readback.proofs.Pages.{length-body, length-page, page-count, page-used, used-least, page_places, progress_places}
 use Rattle.readback.proofs.Pairs.{Between}
 use Rattle.closedfiles.proofs.Chain.{page_stands, page-first, page_pointer, last_fits}
-use Rattle.ledgers.specs.Sources.{Source, sourced, unread, page_of}
-use Rattle.ledgers.specs.Rules.{usable, unfit, overfull, too_short, with_source, copy_refusal, strike_refusal, close_refusal}
+use Rattle.ledgers.specs.Sources.{Source, page_of}
+use Rattle.ledgers.specs.Rules.{too_short, with_source, copy_refusal, strike_refusal, close_refusal}
 use Rattle.ledgers.specs.Steps.{View, Act, copy, strike, close, Answer, done, long, refused, Seen, seen, unless, moved_on, is_pointer, pointer_back, without_last, struck_to, stepped, Begun, fresh, opening_by, beginning_by, beginning}
 use Rattle.ledgers.specs.Ledgers.{Ledger, Call, pages_of, come_by, ruling, ruled, struck, booked, ledger, rulings}
 use Rattle.ledgers.specs.Histories.{used, AreBytes, History, opened, called, moved, short}
 use Rattle.ledgers.proofs.Documents.{Checked, checked, l-small}
-use Rattle.ledgers.proofs.Kept.{or_none, passed_test, Taken, Kept, Fitting, taken, come_more, fits_of, counts-there, all-counted, closed-long}
+use Rattle.ledgers.proofs.Kept.{or_none, passed_test, Taken, Kept, Fitting, taken, fitted, come_more, counts-there, all-counted, closed-long}
 use Rattle.ledgers.proofs.Outputs.{length-overwritten, take-overwritten, forgotten-back}
 
 module _ (m : Meaning) (o : Opening) where
@@ -108,14 +108,9 @@ module _ (m : Meaning) (o : Opening) where
 
   enough : (es : List Source) (s : Source) (marks room : ℕ) → copy_refusal m o (come es) s marks room ≡ None → (come (s ∷ es)).used ≤ room
   enough es s marks room e =
-      let g = come (s ∷ es) in
-      let a = or_none (too_short (come es) room) _ e in
-      let b = or_none (unread (sourced o.mag m s) marks) (overfull F o (with_source m o (come es) s) room) a.1 in
-      let c : overfull F o g room ≡ None = ap (λ x. overfull F o x room) (sym (come_more m o es s)) ∙ b.1 in
-      let p = passed_test (nat_lt 64 (length g.pairs)) _ _ c in
-      let q = passed_test (nat_lt 65535 g.count) _ _ p.1 in
-      let f = fits_of m o F g room q.1 in
-      omega (arith, f)
+      let f = fitted m o es s marks room e in
+      let short = f.1.short in
+      omega (arith, short)
 
   copy-agrees : (es : List Source) (s : Source) (marks : ℕ) (out : List ℕ) → Kept m o es → Holds es out → Agree (running_on es) (copy s marks) (stepped (expected (running_on es)) (copy s marks) out) (ruled m o (running_on es) (copy s marks) (length out))
   copy-agrees es s marks out k h = by (copy_refusal m o (come es) s marks (length out)) refl

@@ -1,6 +1,6 @@
 // The calls of a run: copy, strike and close.
-ghost use Rattle.std.specs.Prelude.{◌≡◌, length};
-ghost use Rattle.ledgers.specs.Sources.{Source};
+ghost use Rattle.std.specs.Prelude.{◌≡◌, length, nat_lt, Ok, Err, if◌then◌else◌};
+ghost use Rattle.shelf.specs.declared.refusals.Refusal.TheVariants.{BadOutput};
 ghost use Rattle.ledgers.specs.Steps.{copy, strike, close, seen, stepped};
 ghost use Rattle.ledgers.specs.Lists.{read_at, marked, chained};
 ghost use Rattle.ledgers.specs.Histories.{Faithful};
@@ -37,7 +37,14 @@ impl<'a, S: Shelf> Run<'a, S> {
                 }
                 let n = read_page(document, stated, page, self.shelf, chain, marks)?;
                 let counts = counts_of(document, stated, page).ok_or(Refusal::NoPage)?;
-                let standing = append_page(self.shelf, &mut self.pairs, standing, counts, &marks[..n], out)?;
+                let standing = append_page(
+                    self.shelf,
+                    &mut self.pairs,
+                    standing,
+                    counts,
+                    &marks[..n],
+                    out,
+                )?;
                 self.state = State::Open(standing);
                 Ok(())
             }
@@ -86,6 +93,7 @@ impl<'a, S: Shelf> Run<'a, S> {
 
 // An output that is below the run's length does not hold it.
 fn check_output(standing: Standing, out: &[u8]) -> Result<(), Refusal>
+    ensures { result ≡ (if nat_lt (length out.now) standing.used then Err BadOutput else Ok tt) }
 {
     if out.len() < standing.used as usize {
         return Err(Refusal::BadOutput);

@@ -7,16 +7,7 @@ use crate::runs::{Run, State};
 use document::legal;
 use pairs::PairTable;
 use shelf::{Refusal, Shelf};
-use writing::{Opening, Standing, write_front};
-
-// A run that is closed empty has so many bytes.
-const LEAST_OUTPUT: usize = 56;
-
-// How many bytes stand in front of the pages.
-const FRONT: u32 = 15;
-
-// A pointer that leads nowhere, -1.
-const NO_PAGE: u32 = 4_294_967_295;
+use writing::{Opening, write_front};
 
 impl<'a, S: Shelf> Run<'a, S> {
     // Opens a run on a document, whose magnification and largest page the file will state, and writes its first bytes.
@@ -24,23 +15,17 @@ impl<'a, S: Shelf> Run<'a, S> {
         ensures { begun S.means result out.new ≡ beginning (S.means shelf.now) document.now out.old }
     {
         let stated = legal(document)?;
-        if out.len() < LEAST_OUTPUT {
-            return Err(Refusal::OutputFull);
-        }
-        write_front(stated.mag, out);
+        let opening = Opening {
+            mag: stated.mag,
+            l: stated.l,
+            u: stated.u,
+        };
+        let standing = write_front(opening, out)?;
         Ok(Run {
             shelf,
-            opening: Opening {
-                mag: stated.mag,
-                l: stated.l,
-                u: stated.u,
-            },
+            opening,
             pairs: PairTable::new(),
-            state: State::Open(Standing {
-                used: FRONT,
-                last: NO_PAGE,
-                pages: 0,
-            }),
+            state: State::Open(standing),
         })
     }
 }

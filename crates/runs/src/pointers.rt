@@ -1,8 +1,7 @@
 // The pointer of the last page, as it stands in the output.
-ghost use Rattle.std.specs.Prelude.{◌≡◌};
+ghost use Rattle.std.specs.Prelude.{◌≡◌, List};
 ghost use Rattle.copies.specs.declared.pairs.Pair.{Pair as Entry};
-ghost use Rattle.std.specs.Prelude.{List};
-ghost use Rattle.ledgers.specs.Steps.{pointer_back};
+ghost use Rattle.ledgers.specs.Steps.{is_pointer as is_pointer_of, pointer_back};
 ghost use Rattle.writing.specs.Standings.{progress_of};
 
 use numbers::number;
@@ -28,7 +27,7 @@ pub(crate) fn pointer_back(standing: Standing, out: &[u8]) -> Option<u32>
 // Whether a pointer can be that of the last page: -1 where that is the first, and else to a place behind the preamble with
 // 46 bytes before the last page.
 fn is_pointer(standing: Standing, pointer: u32) -> bool
-    ensures { (ps : List Entry) → result ≡ Rattle.ledgers.specs.Steps.is_pointer (progress_of standing ps) pointer }
+    ensures { (ps : List Entry) → result ≡ is_pointer_of (progress_of standing ps) pointer }
 {
     if standing.pages == 1 {
         pointer == u32::MAX

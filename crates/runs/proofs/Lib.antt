@@ -1,0 +1,3 @@
+pub mod Backwards
+pub mod Steps
+pub mod Copying
