@@ -1,14 +1,17 @@
 // Cutting a line into words, and reading the numbers and bytes that the words spell.
-ghost use Rattle.std.specs.Prelude.{◌≡◌, ◌≢◌, ℕ, ◌-◌, ◌^◌, ◌<◌, ◌≤◌, pos, negsuc, List, length, slice_index_or, Option, Some, None, Err, IfOk};
+ghost use Rattle.std.specs.Prelude.{◌≡◌, ◌≢◌, ◌==◌, ℕ, ◌-◌, ◌^◌, ◌<◌, ◌≤◌, pos, negsuc, List, map, length, slice_index_or, Option, Some, None, Err, IfOk, IfSome};
+ghost use Rattle.std.specs.List.{slice_split};
 ghost use Rattle.std.specs.Option.{ok_or};
-ghost use Rattle.script.specs.Spelling.{signed, spells_number, unsigned};
-ghost use Rattle.script.specs.declared.problems.Problem.TheVariants.{NotNumber, WrongCount};
+ghost use Rattle.script.specs.Spelling.{hexadecimal_digit, signed, spelled_byte, spelled_fix_word, spells_number, unsigned};
+ghost use Rattle.script.specs.declared.problems.Problem.TheVariants.{NotBytes, NotNumber, WrongCount};
 
 use crate::problems::Problem;
 use std::alloc::{AllocError, Global};
 
 // The parts of a text between its separators. They lie in the text: nothing of it is copied.
-pub fn cut<'a>(text: &'a [u8], separator: u8, heap: Global) -> Result<Vec<&'a [u8]>, AllocError> {
+pub fn cut<'a>(text: &'a [u8], separator: u8, heap: Global) -> Result<Vec<&'a [u8]>, AllocError>
+    ensures { IfOk result (λ parts. map (λ part. part.now) parts.items ≡ slice_split (λ byte. byte == separator) text.now) }
+{
     text.split(|byte| *byte == separator).collect(heap)
 }
 
@@ -101,19 +104,23 @@ pub fn bytes(word: &[u8], heap: Global) -> Result<Vec<u8>, Problem> {
 }
 
 // The four bytes of a fix_word as one number.
-pub fn fix_word(word: &[u8]) -> Result<u32, Problem> {
+pub fn fix_word(word: &[u8]) -> Result<u32, Problem>
+    ensures { result ≡ ok_or (spelled_fix_word word.now) NotBytes }
+{
     if word.len() != 8 {
         return Err(Problem::NotBytes);
     }
-    word.iter()
-        .try_fold(
-            0u32,
-            |number, letter| Some(number << 4 | u32::from(digit_of(*letter)?)),
-        )
-        .ok_or(Problem::NotBytes)
+    let mut number = 0;
+    for letter in word {
+        let digit = digit_of(*letter).ok_or(Problem::NotBytes)?;
+        number = number * 16 + u32::from(digit);
+    }
+    Ok(number)
 }
 
-fn byte_of(pair: &[u8]) -> Option<u8> {
+fn byte_of(pair: &[u8]) -> Option<u8>
+    ensures { result ≡ spelled_byte pair.now }
+{
     let [high, low] = pair else {
         return None;
     };
@@ -121,9 +128,8 @@ fn byte_of(pair: &[u8]) -> Option<u8> {
 }
 
 fn digit_of(letter: u8) -> Option<u8>
-    ensures bound { elim result [ Some digit ↦ digit < 16 | None ↦ Unit {0} ] }
-    ensures decimal { 48 ≤ letter → letter ≤ 57 → result ≡ Some (letter - 48) }
-    ensures further { 97 ≤ letter → letter ≤ 102 → result ≡ Some (letter - 87) }
+    ensures is { result ≡ hexadecimal_digit letter }
+    ensures bound { IfSome result (λ digit. digit < 16) }
 {
     match letter {
         b'0'..=b'9' => Some(letter - b'0'),
