@@ -1,7 +1,8 @@
 -- Bytes that are spelled by pairs of digits, one pair after the other.
-use Rattle.std.proofs.Common.{rules, arith, ℕ, List, [], ◌∷◌, ◌++◌, ◌≡◌, ◌<◌, min, length, Option, Some, None, refl, ◌∙◌, ap, append_assoc}
+use Rattle.std.proofs.Common.{arith, ℕ, List, [], ◌∷◌, ◌++◌, ◌≡◌, ◌<◌, min, length, Option, Some, None, refl, append_assoc}
 use Rattle.std.specs.Option.{option_and_then, option_map}
-use Rattle.script.specs.Spelling.{spelled_byte, spelled_pairs}
+use Rattle.script.specs.Bytes.{spelled_pairs}
+use Rattle.script.specs.Spelling.{spelled_byte}
 
 -- the first pair, and then the others
 first_pair : (rest pair after : List ℕ) → rest ≡ pair ++ after → length pair ≡ min 2 (length rest) → 0 < length rest → spelled_pairs rest ≡ option_and_then (λ byte. option_map (λ bytes. byte ∷ bytes) (spelled_pairs after)) (spelled_byte pair)

@@ -1,9 +1,8 @@
 -- The numbers that words spell.
-use Rattle.std.specs.Prelude.{ℕ, ◌+◌, ◌-◌, ◌*◌, ◌^◌, min, Bool, cond, ◌&&◌, ◌==◌, nat_lt, nat_le, ℤ, pos, neg_ℤ, List, [], ◌∷◌, length, drop, codes, Option, None, Some}
+use Rattle.std.specs.Prelude.{ℕ, ◌+◌, ◌-◌, ◌*◌, ◌^◌, min, Bool, cond, ◌&&◌, ◌==◌, nat_lt, nat_le, ℤ, pos, neg_ℤ, List, [], ◌∷◌, length, drop, Option, None, Some}
 use Rattle.std.specs.Option.{option_and_then, option_map}
 use Rattle.std.specs.Char.{is_ascii_digit}
 use Rattle.std.specs.List.{list_all}
-use Rattle.std.specs.Str.{bytes_eq}
 use Rattle.std.specs.Str.Parse.{digits_value, starts_with_minus}
 
 -- one decimal digit or more, and nothing else
@@ -31,16 +30,6 @@ hexadecimal_after number (letter ∷ letters) = option_and_then (λ digit. hexad
 -- the byte of two digits
 abbrev pub spelled_byte : List ℕ → Option ℕ
 spelled_byte pair = cond (length pair == 2) (hexadecimal_after 0 pair) None
-
--- the bytes of pairs of digits
-abbrev pub spelled_pairs : List ℕ → Option (List ℕ)
-spelled_pairs [] = Some []
-spelled_pairs (letter ∷ []) = None
-spelled_pairs (high ∷ low ∷ more) = option_and_then (λ byte. option_map (λ bytes. byte ∷ bytes) (spelled_pairs more)) (hexadecimal_after 0 (high ∷ low ∷ []))
-
--- the bytes of a word: those of its pairs of digits, or none of a minus sign alone
-abbrev pub spelled_bytes : List ℕ → Option (List ℕ)
-spelled_bytes word = cond (bytes_eq word (codes "-")) (Some []) (spelled_pairs word)
 
 -- the number of eight digits
 abbrev pub spelled_fix_word : List ℕ → Option ℕ

@@ -1,9 +1,10 @@
 // Cutting a line into words, and reading the numbers and bytes that the words spell.
-ghost use Rattle.std.specs.Prelude.{◌≡◌, ◌≢◌, ◌==◌, ℕ, ◌-◌, ◌^◌, ◌<◌, ◌≤◌, pos, negsuc, List, map, length, slice_index_or, Option, Some, None, Err, IfOk, IfErr, IfSome, ◌⊎◌, alloc_error};
+ghost use Rattle.std.specs.Prelude.{◌≡◌, ◌≢◌, ◌==◌, ℕ, ◌-◌, ◌^◌, ◌<◌, ◌≤◌, pos, negsuc, List, map, length, slice_index_or, Option, Some, None, Err, IfOk, IfSome};
 ghost use Rattle.std.specs.List.{slice_split};
 ghost use Rattle.std.specs.Option.{ok_or};
-ghost use Rattle.script.specs.Spelling.{hexadecimal_digit, signed, spelled_byte, spelled_bytes, spelled_fix_word, spelled_pairs, spells_number, unsigned};
-ghost use Rattle.script.specs.declared.problems.Problem.TheVariants.{NoMemory, NotBytes, NotNumber, WrongCount};
+ghost use Rattle.script.specs.Bytes.{spelled_bytes, spelled_pairs, Makes};
+ghost use Rattle.script.specs.Spelling.{hexadecimal_digit, signed, spelled_byte, spelled_fix_word, spells_number, unsigned};
+ghost use Rattle.script.specs.declared.problems.Problem.TheVariants.{NotBytes, NotNumber, WrongCount};
 
 use crate::problems::Problem;
 use std::alloc::{AllocError, Global};
@@ -94,8 +95,7 @@ pub fn font(number: i64) -> u16
 
 // The bytes that a word spells by two digits each, or `-` for none.
 pub fn bytes(word: &[u8], heap: Global) -> Result<Vec<u8>, Problem>
-    ensures spelled { IfOk result (λ bytes. spelled_bytes word.now ≡ Some bytes.items) }
-    ensures refused { IfErr result (λ problem. (problem ≡ NoMemory alloc_error) ⊎ ((problem ≡ NotBytes) × (spelled_bytes word.now ≡ None))) }
+    ensures { Makes (ok_or (spelled_bytes word.now) NotBytes) result }
 {
     match word {
         b"-" => Ok(Vec::new(heap)),
@@ -104,8 +104,7 @@ pub fn bytes(word: &[u8], heap: Global) -> Result<Vec<u8>, Problem>
 }
 
 fn bytes_of_pairs(digits: &[u8], heap: Global) -> Result<Vec<u8>, Problem>
-    ensures spelled { IfOk result (λ bytes. spelled_pairs digits.now ≡ Some bytes.items) }
-    ensures refused { IfErr result (λ problem. (problem ≡ NoMemory alloc_error) ⊎ ((problem ≡ NotBytes) × (spelled_pairs digits.now ≡ None))) }
+    ensures { Makes (ok_or (spelled_pairs digits.now) NotBytes) result }
 {
     let mut bytes = Vec::with_capacity(heap, digits.len() / 2)?;
     for pair in digits.chunks(2) {
