@@ -1,5 +1,6 @@
 // The lists that a call fills, and how what it wrote is told.
-ghost use Rattle.std.specs.Prelude.{◌≡◌, ◌++◌};
+ghost use Rattle.std.specs.Prelude.{◌≡◌, take, drop, replicate, IfOk};
+ghost use Rattle.answers.specs.Lists.{has_other, written_count};
 
 use crate::lines::Told;
 use shelf::{Link, Mark};
@@ -27,7 +28,10 @@ const LINK_FILLER: Link = Link {
 };
 
 impl Lists {
-    pub fn fresh(marks: usize, chain: usize, heap: Global) -> Result<Lists, AllocError> {
+    pub fn fresh(marks: usize, chain: usize, heap: Global) -> Result<Lists, AllocError>
+        ensures marks { IfOk result (λ lists. lists.marks.items ≡ replicate marks MARK_FILLER) }
+        ensures chain { IfOk result (λ lists. lists.chain.items ≡ replicate chain LINK_FILLER) }
+    {
         Ok(Lists {
             marks: vec![in heap; MARK_FILLER; marks]?,
             chain: vec![in heap; LINK_FILLER; chain]?,
@@ -52,12 +56,15 @@ impl Lists {
 
 // The entries before the first that is still the filler, and the others.
 fn front<'a, T: PartialEq>(list: &'a [T], filler: &T) -> (&'a [T], &'a [T])
-    ensures { list.now ≡ result.0.now ++ result.1.now }
+    ensures written { result.0.now ≡ take (written_count T.eq filler.now list.now) list.now }
+    ensures others { result.1.now ≡ drop (written_count T.eq filler.now list.now) list.now }
 {
     let end = list.iter().position(|entry| entry == filler);
     list.split_at(end.unwrap_or(list.len()))
 }
 
-fn has_stray<T: PartialEq>(list: &[T], filler: &T) -> bool {
+fn has_stray<T: PartialEq>(list: &[T], filler: &T) -> bool
+    ensures { result ≡ has_other T.eq filler.now list.now }
+{
     list.iter().any(|entry| entry != filler)
 }
