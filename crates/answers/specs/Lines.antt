@@ -1,15 +1,13 @@
 -- The lines by which the library's values are told.
 use Rattle.std.specs.Prelude.{ℕ, ◌/◌, ◌%◌, List, [], ◌∷◌, ◌++◌, codes, false, Option, None, Some}
 use Rattle.std.specs.Fmt.{decimal, digit_glyph, signed_decimal}
-
 use Rattle.std.specs.List.{flat_map}
-use Rattle.shelf.specs.Refusals.{Returned, returned}
+use Rattle.shelf.specs.Refusals.{Returned}
 use Rattle.shelf.specs.declared.fonts.Count.{Count}
 use Rattle.shelf.specs.declared.fonts.Face.{Face}
 use Rattle.shelf.specs.declared.marks.Link.{Link}
 use Rattle.shelf.specs.declared.marks.Mark.{Mark}
 use Rattle.shelf.specs.declared.marks.Mark.TheVariants.{Glyph, Rule}
-use Rattle.shelf.specs.declared.refusals.Refusal.{Refusal}
 
 abbrev pub count_line : Count → List ℕ
 count_line count = decimal count.fonts ++ codes " " ++ decimal count.faces

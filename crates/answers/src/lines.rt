@@ -32,24 +32,6 @@ impl fmt::Display for Told<Face<'_>> {
     }
 }
 
-// A name as two digits for each byte, or `-` for none.
-#[derive(Clone, Copy)]
-struct Digits<'a>(&'a [u8]);
-
-impl fmt::Display for Digits<'_> {
-    ghost output = { λ digits. Some (name_word digits.0.now) };
-
-    fn fmt<W: fmt::Write>(&self, f: &mut fmt::Formatter<W>) -> fmt::Result {
-        if self.0.is_empty() {
-            return write!(f, "-");
-        }
-        for &byte in self.0 {
-            write!(f, "{byte:02x}")?;
-        }
-        Ok(())
-    }
-}
-
 impl fmt::Display for Told<Refusal> {
     ghost output = { λ told. Some (returned_line (returned told.0)) };
 
@@ -94,5 +76,23 @@ impl fmt::Display for Told<Link> {
     fn fmt<W: fmt::Write>(&self, f: &mut fmt::Formatter<W>) -> fmt::Result {
         let Link { font, code, place } = self.0;
         write!(f, "link {font} {code} {place}")
+    }
+}
+
+// A name as two digits for each byte, or `-` for none.
+#[derive(Clone, Copy)]
+struct Digits<'a>(&'a [u8]);
+
+impl fmt::Display for Digits<'_> {
+    ghost output = { λ digits. Some (name_word digits.0.now) };
+
+    fn fmt<W: fmt::Write>(&self, f: &mut fmt::Formatter<W>) -> fmt::Result {
+        if self.0.is_empty() {
+            return write!(f, "-");
+        }
+        for &byte in self.0 {
+            write!(f, "{byte:02x}")?;
+        }
+        Ok(())
     }
 }

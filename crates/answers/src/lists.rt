@@ -1,10 +1,11 @@
 // The lists that a call fills, and how what it wrote is told.
-ghost use Rattle.std.specs.Prelude.{◌≡◌, take, drop, replicate, IfOk};
-ghost use Rattle.answers.specs.Lists.{has_other, written_count};
+ghost use Rattle.std.specs.Prelude.{◌≡◌, take, drop, replicate, Some, IfOk};
+ghost use Rattle.answers.specs.Lists.{has_other, lists_text, written_count};
 
 use crate::lines::Told;
 use shelf::{Link, Mark};
 use std::alloc::{AllocError, Global};
+use std::fmt;
 use terminal::Output;
 
 #[derive(Drop)]
@@ -38,19 +39,28 @@ impl Lists {
         })
     }
 
-    // The entries that were written at the front. `stray` tells of one that was written further behind.
     pub fn tell(&self, out: &mut Output) {
+        write!(out, "{self}");
+    }
+}
+
+// A line for each entry that was written at the front. `stray` tells of one that was written further behind.
+impl fmt::Display for Lists {
+    ghost output = { λ lists. Some (lists_text lists) };
+
+    fn fmt<W: fmt::Write>(&self, f: &mut fmt::Formatter<W>) -> fmt::Result {
         let (marks, other_marks) = front(self.marks.as_slice(), &MARK_FILLER);
         let (chain, other_links) = front(self.chain.as_slice(), &LINK_FILLER);
         for mark in marks {
-            writeln!(out, "{}", Told(*mark));
+            writeln!(f, "{}", Told(*mark))?;
         }
         for link in chain {
-            writeln!(out, "{}", Told(*link));
+            writeln!(f, "{}", Told(*link))?;
         }
         if has_stray(other_marks, &MARK_FILLER) || has_stray(other_links, &LINK_FILLER) {
-            writeln!(out, "stray");
+            writeln!(f, "stray")?;
         }
+        Ok(())
     }
 }
 
