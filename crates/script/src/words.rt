@@ -1,5 +1,5 @@
 // Cutting a line into words, and reading the numbers and bytes that the words spell.
-ghost use Rattle.std.specs.Prelude.{◌≡◌, ◌≢◌, ◌==◌, ℕ, ◌-◌, ◌^◌, ◌<◌, ◌≤◌, pos, negsuc, List, map, length, slice_index_or, Option, Some, None, Err, IfOk, IfSome};
+ghost use Rattle.std.specs.Prelude.{◌≡◌, ◌≢◌, ◌==◌, ℕ, ◌-◌, ◌^◌, ◌<◌, ◌≤◌, pos, negsuc, List, map, length, slice_index_or, Option, Some, None, Err, IfOk, IfErr, IfSome};
 ghost use Rattle.std.specs.List.{slice_split};
 ghost use Rattle.std.specs.Option.{ok_or};
 ghost use Rattle.script.specs.Bytes.{spelled_bytes, spelled_pairs, Makes};
@@ -63,6 +63,7 @@ impl Number for i64 {
 pub fn all<T: Number, const N: usize>(words: &[&[u8]]) -> Result<[T; N], Problem>
     ensures count { length words.now ≢ N → result ≡ Err WrongCount }
     ensures spelled { IfOk result (λ numbers. (k : ℕ) (w : _) (d : T) → k < N → T.spelling (slice_index_or words.now k w).now ≡ Some (slice_index_or numbers k d)) }
+    ensures refused { length words.now ≡ N → IfErr result (λ problem. (problem ≡ NotNumber) × ((k : ℕ) × (k < N) × ((w : _) → T.spelling (slice_index_or words.now k w).now ≡ None))) }
 {
     if words.len() != N {
         return Err(Problem::WrongCount);
