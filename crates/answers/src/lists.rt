@@ -1,9 +1,11 @@
 // The lists that a call fills, and how what it wrote is told.
-ghost use Rattle.std.specs.Prelude.{◌≡◌, ◌++◌};
+ghost use Rattle.std.specs.Prelude.{◌≡◌, take, drop, replicate, Some, IfOk};
+ghost use Rattle.answers.specs.Lists.{has_other, lists_text, written_count};
 
 use crate::lines::Told;
 use shelf::{Link, Mark};
 use std::alloc::{AllocError, Global};
+use std::fmt;
 use terminal::Output;
 
 #[derive(Drop)]
@@ -27,37 +29,52 @@ const LINK_FILLER: Link = Link {
 };
 
 impl Lists {
-    pub fn fresh(marks: usize, chain: usize, heap: Global) -> Result<Lists, AllocError> {
+    pub fn fresh(marks: usize, chain: usize, heap: Global) -> Result<Lists, AllocError>
+        ensures marks { IfOk result (λ lists. lists.marks.items ≡ replicate marks MARK_FILLER) }
+        ensures chain { IfOk result (λ lists. lists.chain.items ≡ replicate chain LINK_FILLER) }
+    {
         Ok(Lists {
             marks: vec![in heap; MARK_FILLER; marks]?,
             chain: vec![in heap; LINK_FILLER; chain]?,
         })
     }
 
-    // The entries that were written at the front. `stray` tells of one that was written further behind.
     pub fn tell(&self, out: &mut Output) {
+        write!(out, "{self}");
+    }
+}
+
+// A line for each entry that was written at the front. `stray` tells of one that was written further behind.
+impl fmt::Display for Lists {
+    ghost output = { λ lists. Some (lists_text lists) };
+
+    fn fmt<W: fmt::Write>(&self, f: &mut fmt::Formatter<W>) -> fmt::Result {
         let (marks, other_marks) = front(self.marks.as_slice(), &MARK_FILLER);
         let (chain, other_links) = front(self.chain.as_slice(), &LINK_FILLER);
         for mark in marks {
-            writeln!(out, "{}", Told(*mark));
+            writeln!(f, "{}", Told(*mark))?;
         }
         for link in chain {
-            writeln!(out, "{}", Told(*link));
+            writeln!(f, "{}", Told(*link))?;
         }
         if has_stray(other_marks, &MARK_FILLER) || has_stray(other_links, &LINK_FILLER) {
-            writeln!(out, "stray");
+            writeln!(f, "stray")?;
         }
+        Ok(())
     }
 }
 
 // The entries before the first that is still the filler, and the others.
 fn front<'a, T: PartialEq>(list: &'a [T], filler: &T) -> (&'a [T], &'a [T])
-    ensures { list.now ≡ result.0.now ++ result.1.now }
+    ensures written { result.0.now ≡ take (written_count T.eq filler.now list.now) list.now }
+    ensures others { result.1.now ≡ drop (written_count T.eq filler.now list.now) list.now }
 {
     let end = list.iter().position(|entry| entry == filler);
     list.split_at(end.unwrap_or(list.len()))
 }
 
-fn has_stray<T: PartialEq>(list: &[T], filler: &T) -> bool {
+fn has_stray<T: PartialEq>(list: &[T], filler: &T) -> bool
+    ensures { result ≡ has_other T.eq filler.now list.now }
+{
     list.iter().any(|entry| entry != filler)
 }

@@ -1,8 +1,13 @@
 // What each refusal of the library means, in plain words. A `Display` for them would be the same `match`, around a type that
 // is made for it alone.
+ghost use Rattle.std.specs.Prelude.{◌≡◌};
+ghost use Rattle.answers.specs.Meanings.{cause_words, refusal_words};
+
 use shelf::{Cause, Refusal};
 
-pub fn meaning(refusal: &Refusal) -> &'static str {
+pub fn meaning(refusal: &Refusal) -> &'static str
+    ensures { result.now ≡ refusal_words refusal.now }
+{
     match *refusal {
         Refusal::DocumentLength { length: _ } =>
             "the document has fewer than 54 or more than 16,777,216 bytes",
@@ -29,7 +34,9 @@ pub fn meaning(refusal: &Refusal) -> &'static str {
     }
 }
 
-fn meaning_of_cause(cause: Cause) -> &'static str {
+fn meaning_of_cause(cause: Cause) -> &'static str
+    ensures { result.now ≡ cause_words cause }
+{
     match cause {
         Cause::NotAllowed => "a command is not allowed here",
         Cause::PastEnd => "a command runs past the end",

@@ -1,1 +1,3 @@
 mod Digits
+mod Pairs
+mod Keys

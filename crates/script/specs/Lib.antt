@@ -1,1 +1,3 @@
 pub mod Spelling
+pub mod Bytes
+pub mod Naming

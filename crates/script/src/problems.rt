@@ -1,5 +1,8 @@
 // Why a line of a script is not carried out.
-use std::alloc::AllocError;
+ghost use Rattle.std.specs.Prelude.{◌≡◌, alloc_error};
+ghost use Rattle.script.specs.declared.problems.Problem.TheVariants.{NoMemory};
+
+use std::alloc::{AllocError, AllocFailed};
 use thiserror::Error;
 
 // The line is answered by `error` and these words, and the script goes on.
@@ -28,5 +31,22 @@ pub enum Problem {
     #[error("a script has at most four ranks, and none over the faces alone")]
     NoRankHere,
     #[error("no memory")]
-    NoMemory(#[from(alloc)] AllocError),
+    NoMemory(AllocError),
+}
+
+impl From<AllocError> for Problem {
+    ghost from_gives = { λ e r. r ≡ NoMemory e };
+
+    fn from(e: AllocError) -> Problem {
+        Problem::NoMemory(e)
+    }
+}
+
+// What could not be stored is dropped.
+impl<T: Drop> From<AllocFailed<T>> for Problem {
+    ghost from_gives = { λ _ r. r ≡ NoMemory alloc_error };
+
+    fn from(failed: AllocFailed<T>) -> Problem {
+        AllocError::from(failed).into()
+    }
 }

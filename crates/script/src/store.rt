@@ -1,4 +1,11 @@
 // The byte strings that a script has named, and the lines that name them.
+ghost use Rattle.std.specs.Prelude.{◌≡◌, ℕ, List, map, None, Ok, IfErr};
+ghost use Rattle.std.specs.Option.{ok_or, option_copied};
+ghost use Rattle.std.specs.Result.{result_ok};
+ghost use Rattle.script.specs.Bytes.{filled_bytes, spelled_bytes};
+ghost use Rattle.script.specs.Naming.{bytes_of, Defines, Gives, Loads};
+ghost use Rattle.script.specs.declared.problems.Problem.TheVariants.{NoSuchBytes, NotBytes};
+
 use crate::problems::Problem;
 use crate::words;
 use crate::words::Number;
@@ -12,18 +19,25 @@ pub struct Store {
 }
 
 impl Store {
-    pub fn new(heap: Global) -> Store {
+    pub fn new(heap: Global) -> Store
+        ensures { (name : List ℕ) → bytes_of result name ≡ None }
+    {
         Store {
             named: HashMap::new(heap),
         }
     }
 
-    pub fn forget(&mut self) {
+    pub fn forget(&mut self)
+        ensures { (name : List ℕ) → bytes_of self.new name ≡ None }
+    {
         self.named.clear();
     }
 
     // The bytes that were last given this name.
-    pub fn find(&self, name: &[u8]) -> Result<&[u8], Problem> {
+    pub fn find(&self, name: &[u8]) -> Result<&[u8], Problem>
+        ensures found { option_copied (result_ok result) ≡ bytes_of self.now name.now }
+        ensures missing { IfErr result (λ problem. problem ≡ NoSuchBytes) }
+    {
         self.named
             .get(name)
             .map(|bytes| bytes.as_slice())
@@ -31,25 +45,42 @@ impl Store {
     }
 
     // A line that names bytes, by all its words.
-    pub fn define(&mut self, rt: &HostRuntime, line: &[&[u8]]) -> Result<(), Problem> {
-        let heap = rt.alloc();
-        let (name, bytes) = match line {
-            [b"bytes", name, digits] => (name, words::bytes(digits, heap)?),
-            [b"fill", name, byte, count] => (name, filled(byte, count, heap)?),
-            [b"file", name, path] => (name, loaded(rt, path)?),
-            _ => return Err(Problem::WrongCount),
-        };
+    pub fn define(&mut self, rt: &HostRuntime, line: &[&[u8]]) -> Result<(), Problem>
+        ensures { Defines self.old self.new (map (λ word. word.now) line.now) result }
+    {
+        match line {
+            [b"bytes", name, digits] => self.spell(name, digits, rt.alloc()),
+            [b"fill", name, byte, count] => self.fill(name, byte, count, rt.alloc()),
+            [b"file", name, path] => self.load(name, path, rt),
+            _ => Err(Problem::WrongCount),
+        }
+    }
+
+    fn spell(&mut self, name: &[u8], digits: &[u8], heap: Global) -> Result<(), Problem>
+        ensures { Gives self.old self.new name.now (ok_or (spelled_bytes digits.now) NotBytes) result }
+    {
+        self.give(name, words::bytes(digits, heap)?, heap)
+    }
+
+    fn fill(&mut self, name: &[u8], byte: &[u8], count: &[u8], heap: Global) -> Result<(), Problem>
+        ensures { Gives self.old self.new name.now (filled_bytes byte.now count.now) result }
+    {
+        let byte = u8::try_from(usize::spelled(byte)?).map_err(|_| Problem::NotByte)?;
+        self.give(name, vec![in heap; byte; usize::spelled(count)?]?, heap)
+    }
+
+    fn load(&mut self, name: &[u8], path: &[u8], rt: &HostRuntime) -> Result<(), Problem>
+        ensures { Loads self.old self.new name.now path.now result }
+    {
+        let path = std::str::from_utf8(path).map_err(|_| Problem::NotText)?;
+        let bytes = fs::read(rt, path).map_err(|_| Problem::NoSuchFile)?;
+        self.give(name, bytes, rt.alloc())
+    }
+
+    fn give(&mut self, name: &[u8], bytes: Vec<u8>, heap: Global) -> Result<(), Problem>
+        ensures { Gives self.old self.new name.now (Ok bytes.items) result }
+    {
         self.named.insert(Vec::from_slice(heap, name)?, bytes)?;
         Ok(())
     }
-}
-
-fn filled(byte: &[u8], count: &[u8], heap: Global) -> Result<Vec<u8>, Problem> {
-    let byte = u8::try_from(usize::spelled(byte)?).map_err(|_| Problem::NotByte)?;
-    Ok(vec![in heap; byte; usize::spelled(count)?]?)
-}
-
-fn loaded(rt: &HostRuntime, path: &[u8]) -> Result<Vec<u8>, Problem> {
-    let path = std::str::from_utf8(path).map_err(|_| Problem::NotText)?;
-    fs::read(rt, path).map_err(|_| Problem::NoSuchFile)
 }

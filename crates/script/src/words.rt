@@ -1,14 +1,18 @@
 // Cutting a line into words, and reading the numbers and bytes that the words spell.
-ghost use Rattle.std.specs.Prelude.{◌≡◌, ◌≢◌, ℕ, ◌-◌, ◌^◌, ◌<◌, ◌≤◌, pos, negsuc, List, length, slice_index_or, Option, Some, None, Err, IfOk};
+ghost use Rattle.std.specs.Prelude.{◌≡◌, ◌≢◌, ◌==◌, ℕ, ◌-◌, ◌^◌, ◌<◌, ◌≤◌, pos, negsuc, List, map, length, slice_index_or, Option, Some, None, Err, IfOk, IfErr, IfSome};
+ghost use Rattle.std.specs.List.{slice_split};
 ghost use Rattle.std.specs.Option.{ok_or};
-ghost use Rattle.script.specs.Spelling.{signed, spells_number, unsigned};
-ghost use Rattle.script.specs.declared.problems.Problem.TheVariants.{NotNumber, WrongCount};
+ghost use Rattle.script.specs.Bytes.{spelled_bytes, spelled_pairs, Makes};
+ghost use Rattle.script.specs.Spelling.{hexadecimal_digit, signed, spelled_byte, spelled_fix_word, spells_number, unsigned};
+ghost use Rattle.script.specs.declared.problems.Problem.TheVariants.{NotBytes, NotNumber, WrongCount};
 
 use crate::problems::Problem;
 use std::alloc::{AllocError, Global};
 
 // The parts of a text between its separators. They lie in the text: nothing of it is copied.
-pub fn cut<'a>(text: &'a [u8], separator: u8, heap: Global) -> Result<Vec<&'a [u8]>, AllocError> {
+pub fn cut<'a>(text: &'a [u8], separator: u8, heap: Global) -> Result<Vec<&'a [u8]>, AllocError>
+    ensures { IfOk result (λ parts. map (λ part. part.now) parts.items ≡ slice_split (λ byte. byte == separator) text.now) }
+{
     text.split(|byte| *byte == separator).collect(heap)
 }
 
@@ -59,6 +63,7 @@ impl Number for i64 {
 pub fn all<T: Number, const N: usize>(words: &[&[u8]]) -> Result<[T; N], Problem>
     ensures count { length words.now ≢ N → result ≡ Err WrongCount }
     ensures spelled { IfOk result (λ numbers. (k : ℕ) (w : _) (d : T) → k < N → T.spelling (slice_index_or words.now k w).now ≡ Some (slice_index_or numbers k d)) }
+    ensures refused { length words.now ≡ N → IfErr result (λ problem. (problem ≡ NotNumber) × ((k : ℕ) × (k < N) × ((w : _) → T.spelling (slice_index_or words.now k w).now ≡ None))) }
 {
     if words.len() != N {
         return Err(Problem::WrongCount);
@@ -90,30 +95,43 @@ pub fn font(number: i64) -> u16
 }
 
 // The bytes that a word spells by two digits each, or `-` for none.
-pub fn bytes(word: &[u8], heap: Global) -> Result<Vec<u8>, Problem> {
+pub fn bytes(word: &[u8], heap: Global) -> Result<Vec<u8>, Problem>
+    ensures { Makes (ok_or (spelled_bytes word.now) NotBytes) result }
+{
     match word {
         b"-" => Ok(Vec::new(heap)),
-        digits => digits
-            .chunks(2)
-            .map(|pair| byte_of(pair).ok_or(Problem::NotBytes))
-            .try_collect(heap),
+        digits => bytes_of_pairs(digits, heap),
     }
+}
+
+fn bytes_of_pairs(digits: &[u8], heap: Global) -> Result<Vec<u8>, Problem>
+    ensures { Makes (ok_or (spelled_pairs digits.now) NotBytes) result }
+{
+    let mut bytes = Vec::with_capacity(heap, digits.len() / 2)?;
+    for pair in digits.chunks(2) {
+        bytes.push(byte_of(pair).ok_or(Problem::NotBytes)?)?;
+    }
+    Ok(bytes)
 }
 
 // The four bytes of a fix_word as one number.
-pub fn fix_word(word: &[u8]) -> Result<u32, Problem> {
+pub fn fix_word(word: &[u8]) -> Result<u32, Problem>
+    ensures { result ≡ ok_or (spelled_fix_word word.now) NotBytes }
+{
     if word.len() != 8 {
         return Err(Problem::NotBytes);
     }
-    word.iter()
-        .try_fold(
-            0u32,
-            |number, letter| Some(number << 4 | u32::from(digit_of(*letter)?)),
-        )
-        .ok_or(Problem::NotBytes)
+    let mut number = 0;
+    for letter in word {
+        let digit = digit_of(*letter).ok_or(Problem::NotBytes)?;
+        number = number * 16 + u32::from(digit);
+    }
+    Ok(number)
 }
 
-fn byte_of(pair: &[u8]) -> Option<u8> {
+fn byte_of(pair: &[u8]) -> Option<u8>
+    ensures { result ≡ spelled_byte pair.now }
+{
     let [high, low] = pair else {
         return None;
     };
@@ -121,9 +139,8 @@ fn byte_of(pair: &[u8]) -> Option<u8> {
 }
 
 fn digit_of(letter: u8) -> Option<u8>
-    ensures bound { elim result [ Some digit ↦ digit < 16 | None ↦ Unit {0} ] }
-    ensures decimal { 48 ≤ letter → letter ≤ 57 → result ≡ Some (letter - 48) }
-    ensures further { 97 ≤ letter → letter ≤ 102 → result ≡ Some (letter - 87) }
+    ensures is { result ≡ hexadecimal_digit letter }
+    ensures bound { IfSome result (λ digit. digit < 16) }
 {
     match letter {
         b'0'..=b'9' => Some(letter - b'0'),
