@@ -3,10 +3,14 @@
 
 mod failure;
 mod files;
+mod kinds;
 mod options;
 mod output;
+mod values;
 
 pub use failure::Failure;
 pub use files::read;
-pub use options::{Font, Options};
+pub use kinds::Kind;
+pub use options::Options;
 pub use output::Output;
+pub use values::Font;
