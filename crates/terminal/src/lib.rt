@@ -1,6 +1,7 @@
 // What the commands share: their options, the files that they read, what they print, and how they tell of a failure.
 #![tactic(auto)]
 
+mod endings;
 mod failure;
 mod files;
 mod kinds;
@@ -8,6 +9,7 @@ mod options;
 mod output;
 mod values;
 
+pub use endings::Ended;
 pub use failure::Failure;
 pub use files::read;
 pub use kinds::Kind;
