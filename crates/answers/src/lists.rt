@@ -34,6 +34,15 @@ impl Lists {
         })
     }
 
+    // The marks that a call wrote, all at the front.
+    pub fn marks_written(&self) -> &[Mark] {
+        front(self.marks.as_slice(), &MARK_FILLER).0
+    }
+
+    pub fn links_written(&self) -> &[Link] {
+        front(self.chain.as_slice(), &LINK_FILLER).0
+    }
+
     // The entries that were written at the front. `stray` tells of one that was written further behind.
     pub fn tell(&self, out: &mut Output) {
         let (marks, other_marks) = front(self.marks.as_slice(), &MARK_FILLER);
