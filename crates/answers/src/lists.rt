@@ -1,5 +1,6 @@
 // The lists that a call fills, and how what it wrote is told.
-ghost use Rattle.std.specs.Prelude.{◌≡◌, ◌++◌};
+ghost use Rattle.std.specs.Prelude.{◌≡◌, ◌++◌, IfOk};
+ghost use Rattle.answers.specs.Fresh.{no_marks, no_links};
 
 use crate::lines::Told;
 use shelf::{Link, Mark};
@@ -27,7 +28,11 @@ const LINK_FILLER: Link = Link {
 };
 
 impl Lists {
-    pub fn fresh(marks: usize, chain: usize, heap: Global) -> Result<Lists, AllocError> {
+    #[tactic(auto, unfolding(crate::specs::Fresh::no_marks, crate::specs::Fresh::no_links))]
+    pub fn fresh(marks: usize, chain: usize, heap: Global) -> Result<Lists, AllocError>
+        ensures marks { IfOk result (λ l. l.marks.items ≡ no_marks marks) }
+        ensures chain { IfOk result (λ l. l.chain.items ≡ no_links chain) }
+    {
         Ok(Lists {
             marks: vec![in heap; MARK_FILLER; marks]?,
             chain: vec![in heap; LINK_FILLER; chain]?,
