@@ -1,6 +1,7 @@
 // The lists that a call fills, and how what it wrote is told.
-ghost use Rattle.std.specs.Prelude.{◌≡◌, ◌++◌, IfOk};
-ghost use Rattle.answers.specs.Fresh.{no_marks, no_links};
+ghost use Rattle.std.specs.Prelude.{◌≡◌, ◌++◌, IfOk, not};
+ghost use Rattle.std.specs.List.{before_first, list_any, position};
+ghost use Rattle.answers.specs.Fresh.{no_mark, no_marks, no_link, no_links};
 
 use crate::lines::Told;
 use shelf::{Link, Mark};
@@ -40,11 +41,15 @@ impl Lists {
     }
 
     // The marks that a call wrote, all at the front.
-    pub fn marks_written(&self) -> &[Mark] {
+    pub fn marks_written(&self) -> &[Mark]
+        ensures { result.now ≡ before_first (λ m. ⟦<Mark as PartialEq>⟧.eq m no_mark) self.now.marks.items }
+    {
         front(self.marks.as_slice(), &MARK_FILLER).0
     }
 
-    pub fn links_written(&self) -> &[Link] {
+    pub fn links_written(&self) -> &[Link]
+        ensures { result.now ≡ before_first (λ l. ⟦<Link as PartialEq>⟧.eq l no_link) self.now.chain.items }
+    {
         front(self.chain.as_slice(), &LINK_FILLER).0
     }
 
@@ -64,14 +69,24 @@ impl Lists {
     }
 }
 
-// The entries before the first that is still the filler, and the others.
-fn front<'a, T: PartialEq>(list: &'a [T], filler: &T) -> (&'a [T], &'a [T])
-    ensures { list.now ≡ result.0.now ++ result.1.now }
+// The place of the first entry that is still the filler.
+fn first<T: PartialEq>(list: &[T], filler: &T) -> Option<usize>
+    ensures { result ≡ position (λ x. T.eq x filler.now) list.now }
 {
-    let end = list.iter().position(|entry| entry == filler);
-    list.split_at(end.unwrap_or(list.len()))
+    list.iter().position(|entry| entry == filler)
 }
 
-fn has_stray<T: PartialEq>(list: &[T], filler: &T) -> bool {
+// The entries before the first that is still the filler, and the others.
+#[tactic(auto, using(crate::proofs::Fronts::first_or_all))]
+fn front<'a, T: PartialEq>(list: &'a [T], filler: &T) -> (&'a [T], &'a [T])
+    ensures front { result.0.now ≡ before_first (λ x. T.eq x filler.now) list.now }
+    ensures others { list.now ≡ result.0.now ++ result.1.now }
+{
+    list.split_at(first(list, filler).unwrap_or(list.len()))
+}
+
+fn has_stray<T: PartialEq>(list: &[T], filler: &T) -> bool
+    ensures { result ≡ list_any (λ x. not (T.eq x filler.now)) list.now }
+{
     list.iter().any(|entry| entry != filler)
 }
