@@ -1,3 +1,4 @@
+pub mod Fresh
 pub mod Lines
 pub mod Lists
 pub mod Meanings

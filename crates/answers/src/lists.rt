@@ -1,6 +1,7 @@
 // The lists that a call fills, and how what it wrote is told.
-ghost use Rattle.std.specs.Prelude.{◌≡◌, take, drop, replicate, Some, IfOk};
-ghost use Rattle.answers.specs.Lists.{has_other, lists_text, written_count};
+ghost use Rattle.std.specs.Prelude.{◌≡◌, take, drop, Some, IfOk};
+ghost use Rattle.answers.specs.Fresh.{no_links, no_marks};
+ghost use Rattle.answers.specs.Lists.{has_other, lists_text, same_link, same_mark, written, written_count};
 
 use crate::lines::Told;
 use shelf::{Link, Mark};
@@ -29,14 +30,28 @@ const LINK_FILLER: Link = Link {
 };
 
 impl Lists {
+    #[tactic(auto, unfolding(crate::specs::Fresh::no_marks, crate::specs::Fresh::no_links))]
     pub fn fresh(marks: usize, chain: usize, heap: Global) -> Result<Lists, AllocError>
-        ensures marks { IfOk result (λ lists. lists.marks.items ≡ replicate marks MARK_FILLER) }
-        ensures chain { IfOk result (λ lists. lists.chain.items ≡ replicate chain LINK_FILLER) }
+        ensures marks { IfOk result (λ lists. lists.marks.items ≡ no_marks marks) }
+        ensures chain { IfOk result (λ lists. lists.chain.items ≡ no_links chain) }
     {
         Ok(Lists {
             marks: vec![in heap; MARK_FILLER; marks]?,
             chain: vec![in heap; LINK_FILLER; chain]?,
         })
+    }
+
+    // The marks that a call wrote, all at the front.
+    pub fn marks_written(&self) -> &[Mark]
+        ensures { result.now ≡ written same_mark MARK_FILLER self.now.marks.items }
+    {
+        front(self.marks.as_slice(), &MARK_FILLER).0
+    }
+
+    pub fn links_written(&self) -> &[Link]
+        ensures { result.now ≡ written same_link LINK_FILLER self.now.chain.items }
+    {
+        front(self.chain.as_slice(), &LINK_FILLER).0
     }
 
     pub fn tell(&self, out: &mut Output) {

@@ -8,6 +8,13 @@ dviflat shows the fonts that TeX's DVI files are set in
       its design size and how many characters it has; at a size of S DVI units
       (1 to 134217727), also how wide each character of TEXT is
 
+  dviflat character --tfm NAME=FILE.. --rank NAME=FILE,NAME=FILE..
+          --font NAME --size S --code C [--at H,V]
+      makes a shelf of the TFM files and puts the VF files of each --rank on
+      top, at most four ranks, the lowest first; shows the marks of character C
+      (0 to 255) of the font NAME at a size of S DVI units, set at H,V or else
+      at 0,0, and its width; or the refusal, and where it happened
+
   dviflat replay SCRIPT
       runs a script of calls on the library, and prints the answer to each
 

@@ -1,24 +1,25 @@
 // `faces`: shows what a shelf of TFM files holds.
 ghost use Rattle.std.specs.Prelude.{◌≡◌, ◌<◌, ◌≤◌};
 
-use crate::fonts;
 use crate::points::Points;
 use shelf::{Asked, Mark, Shelf};
-use terminal::{Failure, Options, Output};
+use terminal::{Ended, Failure, Kind, Options, Output};
 use tfm::TfmShelf;
 
-pub fn show_faces(rt: &HostRuntime, words: &[String]) -> Result<(), Failure> {
+const KNOWN: [Kind; 3] = [Kind::Tfm, Kind::Size, Kind::Text];
+
+pub fn show_faces(rt: &HostRuntime, words: &[String]) -> Result<Ended, Failure> {
     let heap = rt.alloc();
-    let options = Options::parse("faces", words, heap)?;
+    let options = Options::parse("faces", &KNOWN, words, heap)?;
     if options.fonts.is_empty() {
         return Err(Failure::Told(format!(in heap; "faces: give at least one --tfm NAME=FILE")?));
     }
-    let sample = match (options.size, &options.text) {
+    let sample = match (options.size, options.text) {
         (Some(size), Some(text)) => Some((size, text.as_bytes())),
         (None, None) => None,
         _ => return Err(Failure::Told(format!(in heap; "faces: --size and --text go together")?)),
     };
-    let shelf = fonts::shelf_of(rt, options.fonts.as_slice())?;
+    let shelf = stacks::faces_of(rt, options.fonts.as_slice())?;
     let mut out = Output::new(rt);
     for k in 0..shelf.count().faces {
         if k > 0 {
@@ -30,7 +31,8 @@ pub fn show_faces(rt: &HostRuntime, words: &[String]) -> Result<(), Failure> {
             face.measure(size, text, &mut out);
         }
     }
-    out.finish()
+    out.finish()?;
+    Ok(Ended::Done)
 }
 
 // A face of a shelf, by its number.

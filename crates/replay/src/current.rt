@@ -1,4 +1,7 @@
 // The shelf that the calls of a script are made on.
+ghost use Rattle.std.specs.Prelude.{◌≡◌, ◌+◌, IfOk, Ok, true};
+ghost use Rattle.replay.specs.Layers.{ranks, is_alone, takes_rank};
+
 use crate::queries::Query;
 use crate::stops::Stop;
 use rank::Rank;
@@ -42,7 +45,10 @@ impl Current {
     }
 
     // The faces alone of this shelf. Of the faces alone these are the same again.
-    pub fn alone(self) -> Current {
+    pub fn alone(self) -> Current
+        ensures alone { is_alone result ≡ true }
+        ensures ranks { ranks result ≡ ranks self }
+    {
         match self {
             Current::Tfm(shelf) => Current::TfmAlone(FacesAlone(shelf)),
             Current::Rank1(shelf) => Current::Alone1(FacesAlone(shelf)),
@@ -54,7 +60,9 @@ impl Current {
     }
 
     // Whether a rank can be put over this shelf. Asked first: `ranked` takes the shelf, which a refusal must leave.
-    pub fn takes_rank(&self) -> Result<(), Problem> {
+    pub fn takes_rank(&self) -> Result<(), Problem>
+        ensures { result ≡ takes_rank self.now }
+    {
         match self {
             Current::Tfm(_) | Current::Rank1(_) | Current::Rank2(_) | Current::Rank3(_) => Ok(()),
             _ => Err(Problem::NoRankHere),
@@ -62,7 +70,10 @@ impl Current {
     }
 
     // An empty rank over this shelf, where there can be one.
-    pub fn ranked(self, heap: Global) -> Result<Current, AllocError> {
+    pub fn ranked(self, heap: Global) -> Result<Current, AllocError>
+        ensures more { takes_rank self ≡ Ok tt → IfOk result (λ c. ranks c ≡ ranks self + 1) }
+        ensures alone { IfOk result (λ c. is_alone c ≡ is_alone self) }
+    {
         Ok(match self {
             Current::Tfm(shelf) => Current::Rank1(Rank::new(shelf, heap)?),
             Current::Rank1(shelf) => Current::Rank2(Rank::new(shelf, heap)?),

@@ -7,11 +7,11 @@ mod state;
 mod stops;
 
 use state::State;
-use terminal::Failure;
+use terminal::{Ended, Failure};
 
 // One line is one call. A line that makes no sense is answered by `error`, and the script goes on; only an answer that
 // cannot be written ends it.
-pub fn run_script(rt: &HostRuntime, words: &[String]) -> Result<(), Failure> {
+pub fn run_script(rt: &HostRuntime, words: &[String]) -> Result<Ended, Failure> {
     let [path] = words else {
         return Err(Failure::Told(format!(in rt.alloc(); "replay takes one script")?));
     };
@@ -23,5 +23,6 @@ pub fn run_script(rt: &HostRuntime, words: &[String]) -> Result<(), Failure> {
             break;
         }
     }
-    state.out.finish()
+    state.out.finish()?;
+    Ok(Ended::Done)
 }

@@ -1,4 +1,10 @@
 // The calls that a shelf answers and that change nothing, whatever its layers are.
+ghost use Rattle.std.specs.Prelude.{◌≡◌, ◌<◌, ◌≤◌, ℕ, pos, negsuc, length, Err};
+ghost use Rattle.shelf.specs.Answers.{Answered};
+ghost use Rattle.shelf.specs.Meaning.{called, started};
+ghost use Rattle.shelf.specs.declared.refusals.Refusal.TheVariants.{Fault};
+ghost use Rattle.replay.specs.Codes.{cause_before_code};
+
 use answers::{Lists, Told};
 use reading::read;
 use script::{Number, Problem, Store};
@@ -126,8 +132,25 @@ impl AnyCode {
         Ok(AnyCode { asked, code })
     }
 
-    fn put_to<S: Shelf>(&self, shelf: &S, lists: &mut Lists) -> Result<(usize, i64), Refusal> {
-        let code = u8::try_from(self.code).map_err(|_| self.without_code(shelf))?;
+    fn put_to<S: Shelf>(&self, shelf: &S, lists: &mut Lists) -> Result<(usize, i64), Refusal>
+        ensures code { (code : ℕ) → self.now.code ≡ pos code → code < 256 → Answered (called (S.means shelf.now) self.now.asked.font self.now.asked.size code self.now.asked.h self.now.asked.v) lists.old.chain.items lists.new.chain.items lists.old.marks.items lists.new.marks.items result }
+        ensures above { (n : ℕ) → self.now.code ≡ pos n → 256 ≤ n → result ≡ Err (Fault (cause_before_code (started (length (S.means shelf.now).names) self.now.asked.font self.now.asked.size self.now.asked.h self.now.asked.v)) 0) }
+        ensures below { (n : ℕ) → self.now.code ≡ negsuc n → result ≡ Err (Fault (cause_before_code (started (length (S.means shelf.now).names) self.now.asked.font self.now.asked.size self.now.asked.h self.now.asked.v)) 0) }
+    {
+        match u8::try_from(self.code) {
+            Ok(code) => self.with_code(code, shelf, lists),
+            Err(_) => Err(self.without_code(shelf)),
+        }
+    }
+
+    fn with_code<S: Shelf>(
+        &self,
+        code: u8,
+        shelf: &S,
+        lists: &mut Lists,
+    ) -> Result<(usize, i64), Refusal>
+        ensures { Answered (called (S.means shelf.now) self.now.asked.font self.now.asked.size code self.now.asked.h self.now.asked.v) lists.old.chain.items lists.new.chain.items lists.old.marks.items lists.new.marks.items result }
+    {
         let asked = Asked { code, ..self.asked };
         shelf.character(
             asked,
@@ -137,7 +160,9 @@ impl AnyCode {
     }
 
     // The refusal of a code that no call can be given: font, size and position are looked at before the code.
-    fn without_code<S: Shelf>(&self, shelf: &S) -> Refusal {
+    fn without_code<S: Shelf>(&self, shelf: &S) -> Refusal
+        ensures { result ≡ Fault (cause_before_code (started (length (S.means shelf.now).names) self.now.asked.font self.now.asked.size self.now.asked.h self.now.asked.v)) 0 }
+    {
         let started = self.asked.start(shelf.count().fonts);
         started.err().unwrap_or(Cause::NoCode).into()
     }

@@ -1,4 +1,7 @@
 // What a script has built so far, and the lines that change it.
+ghost use Rattle.std.specs.Prelude.{◌≡◌, ℕ, IfOk, Some, slice_index_or};
+ghost use Rattle.script.specs.Spelling.{unsigned};
+
 use crate::current::Current;
 use crate::queries::Query;
 use crate::stops::Stop;
@@ -133,7 +136,12 @@ impl<'a> State<'a> {
     }
 }
 
-fn entry_of(four: &[&[u8]]) -> Result<Entry, Problem> {
+fn entry_of(four: &[&[u8]]) -> Result<Entry, Problem>
+    ensures name_place { IfOk result (λ e. (w : _) → unsigned (slice_index_or four.now 0 w).now ≡ Some e.name_place) }
+    ensures name_length { IfOk result (λ e. (w : _) → unsigned (slice_index_or four.now 1 w).now ≡ Some e.name_length) }
+    ensures file_place { IfOk result (λ e. (w : _) → unsigned (slice_index_or four.now 2 w).now ≡ Some e.file_place) }
+    ensures file_length { IfOk result (λ e. (w : _) → unsigned (slice_index_or four.now 3 w).now ≡ Some e.file_length) }
+{
     let [name_place, name_length, file_place, file_length] = script::all::<usize, 4>(four)?;
     Ok(Entry {
         name_place,

@@ -1,24 +1,25 @@
-// Makes a shelf of the TFM files that the command line names.
-ghost use Rattle.std.specs.Prelude.{◌≡◌, ◌+◌, ◌*◌, ◌<◌, ◌≤◌, ℕ, List, ◌∷◌, length, take};
+// Faces made from the TFM files that the command line names.
+ghost use Rattle.std.specs.Prelude.{◌≡◌, ◌+◌, ◌*◌, ◌<◌, ◌≤◌, ℕ, List, ◌∷◌, [], ◌++◌, OnOk, length, take};
 
-use answers::meaning;
+use crate::refusing::refused;
 use shelf::Refusal;
-use std::alloc::{AllocError, Global};
+use std::alloc::AllocError;
 use terminal::{Failure, Font};
 use tfm::{Entry, NotMade, TfmShelf};
 
-pub fn shelf_of(rt: &HostRuntime, fonts: &[Font]) -> Result<TfmShelf, Failure> {
+pub fn faces_of(rt: &HostRuntime, fonts: &[Font]) -> Result<TfmShelf, Failure> {
     let heap = rt.alloc();
     let mut loaded = Loaded {
         bytes: Vec::new(heap),
         entries: Vec::new(heap),
     };
     for font in fonts {
-        loaded.add(rt, font)?;
+        let file = terminal::read(rt, font.file)?;
+        loaded.add(font.name.as_bytes(), unpadded(file.as_slice()))?;
     }
     TfmShelf::new(loaded.bytes.as_slice(), loaded.entries.as_slice(), heap).try_map_err(
         |why| match why {
-            NotMade::Refused(refusal) => refused(refusal, fonts, heap),
+            NotMade::Refused(refusal) => Ok(refused(file_of(refusal, fonts), None, refusal, heap)?),
             NotMade::NoMemory(error) => Ok(error.into()),
         },
     )
@@ -32,19 +33,19 @@ struct Loaded {
 }
 
 impl Loaded {
-    fn add(&mut self, rt: &HostRuntime, font: &Font) -> Result<(), Failure> {
-        let file = terminal::read(rt, font.file.as_str())?;
-        let name = font.name.as_bytes();
-        let contents = unpadded(file.as_slice());
+    fn add(&mut self, name: &[u8], file: &[u8]) -> Result<(), AllocError>
+        ensures bytes { OnOk result (self.new.bytes.items ≡ self.old.bytes.items ++ (name.now ++ file.now)) }
+        ensures entries { OnOk result (self.new.entries.items ≡ self.old.entries.items ++ record { name_place = length self.old.bytes.items; name_length = length name.now; file_place = length self.old.bytes.items + length name.now; file_length = length file.now } ∷ []) }
+    {
         let name_place = self.bytes.len();
         self.bytes.extend_from_slice(name)?;
         let file_place = self.bytes.len();
-        self.bytes.extend_from_slice(contents)?;
+        self.bytes.extend_from_slice(file)?;
         self.entries.push(Entry {
             name_place,
             name_length: name.len(),
             file_place,
-            file_length: contents.len(),
+            file_length: file.len(),
         })?;
         Ok(())
     }
@@ -64,21 +65,10 @@ fn unpadded(file: &[u8]) -> &[u8]
     file.get(..words * 4).unwrap_or(file)
 }
 
-// What to tell of a refusal: by which file, where it is about one.
-fn refused(refusal: Refusal, fonts: &[Font], heap: Global) -> Result<Failure, Failure> {
-    let number = refusal.number();
-    let words = meaning(&refusal);
-    Ok(Failure::Told(match file_of(refusal, fonts) {
-        Some(file) => format!(in heap; "{file}: refused {number}: {words}")?,
-        None => format!(in heap; "refused {number}: {words}")?,
-    }))
-}
-
-fn file_of(refusal: Refusal, fonts: &[Font]) -> Option<&str> {
+// The file that a refusal is about.
+fn file_of<'a>(refusal: Refusal, fonts: &[Font<'a>]) -> Option<&'a str> {
     match refusal {
-        Refusal::BrokenTfm { entry } | Refusal::TfmName { entry } => Some(
-            fonts.get(entry)?.file.as_str(),
-        ),
+        Refusal::BrokenTfm { entry } | Refusal::TfmName { entry } => Some(fonts.get(entry)?.file),
         _ => None,
     }
 }

@@ -1,0 +1,25 @@
+// The commands by their words.
+ghost use Rattle.std.specs.Prelude.{◌≡◌};
+ghost use Rattle.cli.specs.Commands.{command_named};
+
+#[derive(Clone, Copy, Debug, Eq, PartialEq)]
+pub enum Command {
+    Faces,
+    Character,
+    Replay,
+    Help,
+}
+
+impl Command {
+    pub fn named(word: &str) -> Option<Command>
+        ensures { result ≡ command_named word.now }
+    {
+        match word {
+            "faces" => Some(Command::Faces),
+            "character" => Some(Command::Character),
+            "replay" => Some(Command::Replay),
+            "help" | "--help" => Some(Command::Help),
+            _ => None,
+        }
+    }
+}

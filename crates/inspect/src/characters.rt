@@ -1,0 +1,61 @@
+// `character`: shows what a character comes to: its marks and its width, or why it is refused.
+use crate::asking::{Answer, ask};
+use answers::{Told, meaning};
+use shelf::{Asked, Shelf};
+use stacks::stack_of;
+use terminal::{Ended, Failure, Kind, Options, Output};
+
+const KNOWN: [Kind; 6] = [
+    Kind::Tfm,
+    Kind::Rank,
+    Kind::Font,
+    Kind::Size,
+    Kind::Code,
+    Kind::At,
+];
+
+pub fn show_character(rt: &HostRuntime, words: &[String]) -> Result<Ended, Failure> {
+    let heap = rt.alloc();
+    let options = Options::parse("character", &KNOWN, words, heap)?;
+    let name = options.needed(options.font, Kind::Font, heap)?;
+    let size = options.needed(options.size, Kind::Size, heap)?;
+    let code = options.needed(options.code, Kind::Code, heap)?;
+    let (h, v) = options.at.unwrap_or((0, 0));
+    let stack = stack_of(rt, &options)?;
+    let Some(font) = stack.find(name.as_bytes()) else {
+        return Err(Failure::Told(format!(in heap;
+            "character: no font on the shelf has the name {name}"
+        )?));
+    };
+    let asked = Asked {
+        font,
+        size,
+        code,
+        h,
+        v,
+    };
+    show(rt, &ask(&stack, asked, heap)?)
+}
+
+// The marks, and behind them the width; or the refusal and its chain, with the marks that were made before it.
+fn show(rt: &HostRuntime, told: &Answer) -> Result<Ended, Failure> {
+    let mut out = Output::new(rt);
+    for mark in told.lists.marks_written() {
+        writeln!(out, "{}", Told(*mark));
+    }
+    let ended = match &told.answer {
+        Ok((_, width)) => {
+            writeln!(out, "width {width}");
+            Ended::Done
+        }
+        Err(refusal) => {
+            writeln!(out, "refused {}: {}", refusal.number(), meaning(refusal));
+            for link in told.lists.links_written() {
+                writeln!(out, "{}", Told(*link));
+            }
+            Ended::Refused
+        }
+    };
+    out.finish()?;
+    Ok(ended)
+}

@@ -1,0 +1,9 @@
+// The shelf that a command line names: faces of TFM files, and ranks of VF files on top.
+#![tactic(auto)]
+
+mod faces;
+mod ranks;
+mod refusing;
+
+pub use faces::faces_of;
+pub use ranks::{Stack, stack_of};

@@ -1,0 +1,4 @@
+pub mod Words
+pub mod Values
+pub mod Options
+pub mod Endings
