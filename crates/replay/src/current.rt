@@ -3,6 +3,7 @@ ghost use Rattle.std.specs.Prelude.{◌≡◌, ◌+◌, IfOk, Ok, true};
 ghost use Rattle.replay.specs.Layers.{ranks, is_alone, takes_rank};
 
 use crate::queries::Query;
+use crate::session::Session;
 use crate::stops::Stop;
 use rank::Rank;
 use script::Problem;
@@ -41,6 +42,28 @@ impl Current {
             Current::Alone2(shelf) => query.put_to(shelf, heap, out),
             Current::Alone3(shelf) => query.put_to(shelf, heap, out),
             Current::Alone4(shelf) => query.put_to(shelf, heap, out),
+        }
+    }
+
+    // The lines of a run over this shelf, from the one that opens it.
+    pub fn run_on(
+        &self,
+        session: &mut Session<'_>,
+        opening: &[&[u8]],
+        lines: &[&[u8]],
+        from: usize,
+    ) -> usize {
+        match self {
+            Current::Tfm(shelf) => session.run_on(shelf, opening, lines, from),
+            Current::Rank1(shelf) => session.run_on(shelf, opening, lines, from),
+            Current::Rank2(shelf) => session.run_on(shelf, opening, lines, from),
+            Current::Rank3(shelf) => session.run_on(shelf, opening, lines, from),
+            Current::Rank4(shelf) => session.run_on(shelf, opening, lines, from),
+            Current::TfmAlone(shelf) => session.run_on(shelf, opening, lines, from),
+            Current::Alone1(shelf) => session.run_on(shelf, opening, lines, from),
+            Current::Alone2(shelf) => session.run_on(shelf, opening, lines, from),
+            Current::Alone3(shelf) => session.run_on(shelf, opening, lines, from),
+            Current::Alone4(shelf) => session.run_on(shelf, opening, lines, from),
         }
     }
 

@@ -1,8 +1,11 @@
 // `replay`: runs a script of calls on the library, and prints the answer to each.
 #![tactic(auto)]
 
+mod buffers;
+mod copying;
 mod current;
 mod queries;
+mod session;
 mod state;
 mod stops;
 
@@ -16,13 +19,14 @@ pub fn run_script(rt: &HostRuntime, words: &[String]) -> Result<Ended, Failure> 
         return Err(Failure::Told(format!(in rt.alloc(); "replay takes one script")?));
     };
     let script = terminal::read(rt, path.as_str())?;
+    let lines = script::cut(script.as_slice(), b'\n', rt.alloc())?;
     let mut state = State::new(rt);
-    for line in script.as_slice().split(|byte| *byte == b'\n') {
-        state.take(line);
-        if state.out.has_failed() {
-            break;
+    let mut next = 0;
+    for at in 0..lines.len() {
+        if at >= next && !state.session.out.has_failed() {
+            next = state.take(lines.as_slice(), at);
         }
     }
-    state.out.finish()?;
+    state.session.out.finish()?;
     Ok(Ended::Done)
 }

@@ -4,100 +4,72 @@ ghost use Rattle.script.specs.Spelling.{unsigned};
 
 use crate::current::Current;
 use crate::queries::Query;
+use crate::session::Session;
 use crate::stops::Stop;
 use answers::Told;
-use script::{Number, Problem, Store};
-use shelf::{Cause, Shelf};
-use terminal::Output;
+use script::Problem;
+use shelf::Shelf;
 use tfm::{Entry, TfmShelf};
 
 #[derive(Drop)]
 pub struct State<'a> {
-    rt: &'a HostRuntime,
-    pub out: Output,
-    store: Store,
+    pub session: Session<'a>,
     shelf: Option<Current>,
 }
 
 impl<'a> State<'a> {
     pub fn new(rt: &'a HostRuntime) -> State<'a> {
         State {
-            rt,
-            out: Output::new(rt),
-            store: Store::new(rt.alloc()),
+            session: Session::new(rt),
             shelf: None,
         }
     }
 
-    // Carries out one line and writes its answer.
-    pub fn take(&mut self, line: &[u8]) {
-        if line.is_empty() || line.starts_with(b"#") {
-            return;
+    // Carries out the line at a place, and those that a run takes with it. Answers the place of the next one.
+    pub fn take(&mut self, lines: &[&[u8]], at: usize) -> usize {
+        let next = at.saturating_add(1);
+        let Some(line) = lines.get(at) else {
+            return next;
+        };
+        if !self.session.is_call(line) {
+            return next;
         }
         if line.starts_with(b"case ") {
-            return self.begin(line);
+            self.shelf = None;
+            self.session.begin(line);
+            return next;
         }
-        match self.obey(line) {
-            Ok(()) => {}
-            Err(Stop::Senseless(problem)) => writeln!(self.out, "error {problem}\n."),
-            Err(Stop::Refused(refusal)) => writeln!(self.out, "{}\n.", Told(refusal)),
-        }
+        self.obey(line, lines, next).unwrap_or_else(|stop| {
+            self.session.tell(stop);
+            next
+        })
     }
 
-    // `case NAME` forgets everything and prints itself.
-    fn begin(&mut self, line: &[u8]) {
-        self.store.forget();
-        self.shelf = None;
-        self.out.write_bytes(line);
-        writeln!(self.out, "");
-    }
-
-    // A line that names bytes has no answer. Any other answer ends by a dot.
-    fn obey(&mut self, line: &[u8]) -> Result<(), Stop> {
-        let words = script::cut(line, b' ', self.rt.alloc())?;
+    fn obey(&mut self, line: &[u8], lines: &[&[u8]], next: usize) -> Result<usize, Stop> {
+        let words = script::cut(line, b' ', self.session.rt.alloc())?;
         match words.as_slice() {
-            [b"bytes" | b"fill" | b"file", ..] => self.store.define(self.rt, words.as_slice())?,
-            call => {
-                self.answer(call)?;
-                writeln!(self.out, ".");
+            [b"tfm", name, places @ ..] => self.make_shelf(name, places)?,
+            [b"rank"] => self.put_rank()?,
+            [b"add", name, id] => self.add_file(name, id)?,
+            [b"alone"] => self.take_faces()?,
+            [b"count" | b"find" | b"face" | b"character" | b"read", ..] => self.ask(words.as_slice())?,
+            [b"open", ..] => {
+                let shelf = self.shelf.as_ref().ok_or(Problem::NoShelf)?;
+                return Ok(shelf.run_on(&mut self.session, words.as_slice(), lines, next));
             }
+            [b"tfm" | b"rank" | b"add" | b"alone", ..] => return Err(Problem::WrongCount.into()),
+            words => self.session.obey_anywhere(words)?,
         }
-        Ok(())
-    }
-
-    fn answer(&mut self, call: &[&[u8]]) -> Result<(), Stop> {
-        match call {
-            [b"scale", word, size] => self.scale(word, size),
-            [b"tfm", name, places @ ..] => self.make_shelf(name, places),
-            [b"rank"] => self.put_rank(),
-            [b"add", name, id] => self.add_file(name, id),
-            [b"alone"] => self.take_faces(),
-            [b"count" | b"find" | b"face" | b"character" | b"read", ..] => self.ask(call),
-            [b"scale" | b"tfm" | b"rank" | b"add" | b"alone", ..] => Err(
-                Problem::WrongCount.into(),
-            ),
-            _ => Err(Problem::NoSuchLine.into()),
-        }
-    }
-
-    // A fix_word that cannot be scaled has no chain, so its refusal is the number alone.
-    fn scale(&mut self, word: &[u8], size: &[u8]) -> Result<(), Stop> {
-        let word = script::fix_word(word)?;
-        let size = script::size(i64::spelled(size)?);
-        match numbers::scale(word, size) {
-            Some(scaled) => writeln!(self.out, "ok {scaled}"),
-            None => writeln!(self.out, "refused {}", Cause::BadSize.number()),
-        }
-        Ok(())
+        Ok(next)
     }
 
     // A refusal leaves the shelf as it was.
     fn make_shelf(&mut self, name: &[u8], places: &[&[u8]]) -> Result<(), Stop> {
-        let heap = self.rt.alloc();
-        let bytes = self.store.find(name)?;
+        let heap = self.session.rt.alloc();
+        let bytes = self.session.store.find(name)?;
         let entries: Vec<Entry> = places.chunks(4).map(entry_of).try_collect(heap)?;
         let shelf = TfmShelf::new(bytes, entries.as_slice(), heap)?;
-        writeln!(self.out, "ok {}", Told(shelf.count()));
+        writeln!(self.session.out, "ok {}\n.", Told(shelf.count()));
         self.shelf = Some(Current::Tfm(shelf));
         Ok(())
     }
@@ -105,34 +77,36 @@ impl<'a> State<'a> {
     fn put_rank(&mut self) -> Result<(), Stop> {
         self.shelf.as_ref().ok_or(Problem::NoShelf)?.takes_rank()?;
         if let Some(shelf) = self.shelf.take() {
-            self.shelf = Some(shelf.ranked(self.rt.alloc())?);
+            self.shelf = Some(shelf.ranked(self.session.rt.alloc())?);
         }
-        writeln!(self.out, "ok");
+        writeln!(self.session.out, "ok\n.");
         Ok(())
     }
 
     fn add_file(&mut self, name: &[u8], id: &[u8]) -> Result<(), Stop> {
-        let name = script::bytes(name, self.rt.alloc())?;
-        let file = self.store.find(id)?;
+        let name = script::bytes(name, self.session.rt.alloc())?;
+        let file = self.session.store.find(id)?;
         let shelf = self.shelf.as_mut().ok_or(Problem::NoRank)?;
         shelf.add(name.as_slice(), file)?;
-        writeln!(self.out, "ok");
+        writeln!(self.session.out, "ok\n.");
         Ok(())
     }
 
     fn take_faces(&mut self) -> Result<(), Stop> {
         let shelf = self.shelf.take().ok_or(Problem::NoShelf)?;
         self.shelf = Some(shelf.alone());
-        writeln!(self.out, "ok");
+        writeln!(self.session.out, "ok\n.");
         Ok(())
     }
 
     // A call that changes nothing.
     fn ask(&mut self, call: &[&[u8]]) -> Result<(), Stop> {
-        let heap = self.rt.alloc();
+        let heap = self.session.rt.alloc();
         let shelf = self.shelf.as_ref().ok_or(Problem::NoShelf)?;
-        let query = Query::parse(call, &self.store, heap)?;
-        Ok(shelf.ask(&query, heap, &mut self.out)?)
+        let query = Query::parse(call, &self.session.store, heap)?;
+        shelf.ask(&query, heap, &mut self.session.out)?;
+        writeln!(self.session.out, ".");
+        Ok(())
     }
 }
 

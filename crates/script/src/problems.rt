@@ -30,6 +30,10 @@ pub enum Problem {
     NoRank,
     #[error("a script has at most four ranks, and none over the faces alone")]
     NoRankHere,
+    #[error("no run is open")]
+    NoRun,
+    #[error("the output has no such place")]
+    NoSuchPlace,
     #[error("no memory")]
     NoMemory(AllocError),
 }
