@@ -8,6 +8,8 @@ mod characters;
 #[cfg(test)]
 mod entries;
 #[cfg(test)]
+mod pages;
+#[cfg(test)]
 mod sample;
 
 // The worked values of docs/FORMATS.md and docs/REFUSALS.md follow from the definitions that the contracts cite.
