@@ -76,7 +76,7 @@ fn closes<S: Shelf>(rt: &impl Abort, shelf: &S) {
     let closed = append_closing(shelf, &table, OPENING, after, &mut out);
     assert_eq!(rt; closed.map_err(Refusal::number), Ok(144));
     assert!(rt; is_written(&out));
-    assert_eq!(rt; out[144..], [BLANK; 2]);
+    assert_eq!(rt; &out[144..], [BLANK; 2].as_slice());
 }
 
 // One byte is wanting for the closing.
@@ -85,8 +85,8 @@ fn has_no_room<S: Shelf>(rt: &impl Abort, shelf: &S) {
     let mut out = [BLANK; 143];
     assert_eq!(rt; page_in(shelf, &mut table, &mut out), Err(24));
     assert_eq!(rt; table.len(), 0);
-    assert_eq!(rt; out[..15], FRONT);
-    assert_eq!(rt; out[15..], [BLANK; 128]);
+    assert_eq!(rt; &out[..15], FRONT.as_slice());
+    assert_eq!(rt; &out[15..], [BLANK; 128].as_slice());
 }
 
 // Glyphs of the face at sizes 1, 2 and so on.
