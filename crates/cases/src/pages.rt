@@ -5,7 +5,9 @@ use shelf::{Mark, Refusal, Shelf};
 use std::process::Abort;
 use std::test::Fail;
 use tfm::TfmShelf;
-use writing::{Opening, Standing, append_closing, append_page, closed_length, measure_page, write_front};
+use writing::{
+    Opening, Standing, append_closing, append_page, closed_length, measure_page, write_front,
+};
 
 // What stands in an output before.
 const BLANK: u8 = 7;
@@ -31,9 +33,7 @@ const OPENING: Opening = Opening {
     u: 30,
 };
 
-const FRONT: [u8; 15] = [
-    247, 2, 1, 131, 146, 192, 28, 59, 0, 0, 0, 0, 3, 232, 0,
-];
+const FRONT: [u8; 15] = [247, 2, 1, 131, 146, 192, 28, 59, 0, 0, 0, 0, 3, 232, 0];
 
 // The page behind its counts: no page before, right, a definition, its selection, the glyph, the end.
 const PAGE: [u8; 29] = [

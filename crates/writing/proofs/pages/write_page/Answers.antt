@@ -1,4 +1,4 @@
-use Rattle.std.proofs.Common.{◌≡◌, ◌+◌, ◌≤◌, length, ap, ◌∙◌, arith}
+use Rattle.std.proofs.Common.{length, ap, ◌∙◌, arith}
 use Rattle.copies.specs.Marks.{Pen, faces_of, marks_bytes, pen_after_all}
 use Rattle.copies.specs.Writing.{overwritten}
 use Rattle.pairs.specs.Tables.{pairs_of}
