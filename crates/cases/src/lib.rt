@@ -8,6 +8,8 @@ mod characters;
 #[cfg(test)]
 mod entries;
 #[cfg(test)]
+mod pages;
+#[cfg(test)]
 mod ranks;
 #[cfg(test)]
 mod sample;

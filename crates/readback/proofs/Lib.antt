@@ -4,3 +4,4 @@ pub mod Leading
 pub mod Pairs
 pub mod Marks
 pub mod Pages
+pub mod Taken

@@ -1,5 +1,5 @@
 -- How long the closing is, and that its parts are written one after another. Assumes nothing.
-use Rattle.std.proofs.Common.{◌≡◌, ℕ, ◌+◌, ◌-◌, ◌≤◌, List, [], ◌∷◌, ◌++◌, length, take, replicate, Ok, sym, refl, ap, ap₂, ◌∙◌, arith, append_assoc, length-append}
+use Rattle.std.proofs.Common.{◌≡◌, ℕ, ◌+◌, ◌≤◌, List, [], ◌∷◌, ◌++◌, length, take, replicate, Ok, sym, refl, ap, ap₂, ◌∙◌, arith, append_assoc, length-append}
 use Rattle.std.proofs.lemmas.Bool.{le-leb, cond-true}
 use lib.ListN.{length-replicate}
 use Rattle.std.proofs.lemmas.List.{take-replicate}
@@ -9,7 +9,7 @@ use Rattle.copies.specs.Pages.{Progress}
 use Rattle.copies.specs.Writing.{overwritten}
 use Rattle.writing.specs.Closing.{closed_over}
 use Rattle.writing.specs.Standings.{room}
-use Rattle.writing.proofs.Overwrites.{over_more, length_over}
+use Rattle.writing.proofs.Overwrites.{over_more}
 
 pub length_post : (o : Opening) (g : Progress) → length (post_bytes o g) ≡ 29
 unfolding post_bytes

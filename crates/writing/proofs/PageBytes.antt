@@ -1,10 +1,10 @@
 -- A page written in its parts: the front, the marks, the 140. Assumes nothing.
-use Rattle.std.proofs.Common.{◌≡◌, ℕ, ◌+◌, ◌≤◌, List, [], ◌∷◌, ◌++◌, length, sym, refl, ap, ◌∙◌, arith, append_assoc, length-append}
+use Rattle.std.proofs.Common.{◌≡◌, ℕ, ◌+◌, ◌≤◌, List, [], ◌∷◌, ◌++◌, length, ap, ◌∙◌, arith, append_assoc, length-append}
 use Rattle.numbers.specs.Bytes.{digits}
 use Rattle.shelf.specs.declared.marks.Mark.{Mark}
 use Rattle.shelf.specs.Meaning.{Facts}
 use Rattle.copies.specs.Marks.{Pen, marks_bytes, pen_after_all}
-use Rattle.copies.specs.Pages.{Page, Progress, page_pen, page_bytes}
+use Rattle.copies.specs.Pages.{Progress, page_pen, page_bytes}
 use Rattle.copies.specs.Writing.{overwritten}
 use Rattle.writing.proofs.Overwrites.{over_more}
 use Rattle.writing.proofs.Written.{length-marks}

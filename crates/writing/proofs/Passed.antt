@@ -1,5 +1,5 @@
 -- A pen that goes over marks one by one: what it has still to come to, that pairs only come, and how far it has moved. Assumes nothing.
-use Rattle.std.proofs.Common.{◌≡◌, ℕ, ◌+◌, ◌*◌, ◌<◌, ◌≤◌, Bool, true, false, cond, List, [], ◌∷◌, ◌++◌, length, get_or, take, drop, ℤ, Some, None, Option, sym, refl, ap, ◌∙◌, subst, arith, length-append}
+use Rattle.std.proofs.Common.{◌≡◌, ℕ, ◌+◌, ◌*◌, ◌<◌, ◌≤◌, List, [], ◌∷◌, ◌++◌, length, get_or, take, drop, ℤ, Some, None, Option, sym, refl, ap, ◌∙◌, subst, arith, length-append}
 use Rattle.std.proofs.lemmas.List.{take-append-le, drop_more, drop_all}
 use Rattle.numbers.specs.Bytes.{digits, complement}
 use Rattle.numbers.proofs.Digits.{length_digits}
@@ -8,7 +8,7 @@ use Rattle.shelf.specs.declared.marks.Mark.TheVariants.{Glyph, Rule}
 use Rattle.shelf.specs.Meaning.{Facts}
 use Rattle.copies.specs.declared.pairs.Pair.{Pair}
 use Rattle.copies.specs.Pairs.{pair_by, entered}
-use Rattle.copies.specs.Marks.{Pen, move_width, move_bytes, define_bytes, selecting, is_last, font_bytes, shape_bytes, moved_to, mark_bytes, pen_after, pen_after_all}
+use Rattle.copies.specs.Marks.{Pen, move_width, move_bytes, define_bytes, selecting, font_bytes, moved_to, mark_bytes, pen_after, pen_after_all}
 
 -- what a pen that set out from another has come to before the marks from i on
 pub record Onward (F : ℕ → Facts) (first : Pen) (ms : List Mark) (i : ℕ) (pen : Pen) : Type 0 where

@@ -1,12 +1,12 @@
 -- A pen that writes marks one by one: the rest of the bytes stands where all of them will. Assumes nothing.
-use Rattle.std.proofs.Common.{◌≡◌, ℕ, ◌+◌, ◌<◌, ◌≤◌, List, [], ◌∷◌, ◌++◌, length, get_or, take, drop, sym, refl, ap, ◌∙◌, subst, arith, length-append}
+use Rattle.std.proofs.Common.{◌≡◌, ℕ, ◌+◌, ◌<◌, ◌≤◌, List, [], ◌∷◌, ◌++◌, length, get_or, drop, sym, refl, ap, ◌∙◌, arith, length-append}
 use Rattle.std.proofs.lemmas.List.{drop_more, drop_all}
 use Rattle.shelf.specs.declared.marks.Mark.{Mark}
 use Rattle.shelf.specs.Meaning.{Facts}
 use Rattle.copies.specs.Marks.{Pen, mark_bytes, pen_after, marks_bytes, pen_after_all}
 use Rattle.copies.specs.Writing.{overwritten}
 use Rattle.writing.proofs.Overwrites.{over_more, over_none, length_over}
-use Rattle.writing.proofs.Passed.{Onward, onward_more, onward-all}
+use Rattle.writing.proofs.Passed.{Onward, onward_more}
 
 -- the place behind all marks
 pub length-marks : (F : ℕ → Facts) (pen : Pen) (ms : List Mark) → pen.at + length (marks_bytes F pen ms) ≡ (pen_after_all F pen ms).at

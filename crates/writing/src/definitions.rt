@@ -19,26 +19,26 @@ pub(crate) fn told<S: Shelf>(shelf: &S, face: u16) -> Face<'_>
     })
 }
 
-impl Piece {
-    // 243: the number, the face and the size of a pair.
-    #[tactic(auto, unfolding(copies::specs::Marks::define_bytes))]
-    pub(crate) fn definition(self, number: usize, size: u32, face: Face<'_>) -> Piece
-        requires number { number < 64 }
-        requires name { length face.name.now < 64 }
-        requires room { length (made self) + 79 ≤ 92 }
-        ensures made { made result ≡ made self ++ define_bytes number size (facts_in face.entry) }
-        ensures length { length (made result) ≤ length (made self) + 79 }
-    {
-        self.byte(243)
-            .number(1, number as u32)
-            .number(4, face.checksum)
-            .number(4, size)
-            .number(4, face.design / 16)
-            .byte(0)
-            .number(1, face.name.len() as u32)
-            .all(face.name)
-    }
+// 243: the number, the face and the size of a pair.
+#[tactic(auto, unfolding(copies::specs::Marks::define_bytes))]
+pub(crate) fn definition(number: usize, size: u32, face: Face<'_>) -> Piece
+    requires number { number < 64 }
+    requires name { length face.name.now < 64 }
+    ensures made { made result ≡ define_bytes number size (facts_in face.entry) }
+    ensures length { length (made result) ≤ 79 }
+{
+    Piece::new()
+        .byte(243)
+        .number(1, number as u32)
+        .number(4, face.checksum)
+        .number(4, size)
+        .number(4, face.design / 16)
+        .byte(0)
+        .number(1, face.name.len() as u32)
+        .all(face.name)
+}
 
+impl Piece {
     // 171 to 234, where the number is not the last selected.
     pub(crate) fn selection(self, last: Option<usize>, number: usize) -> Piece
         requires number { number < 64 }

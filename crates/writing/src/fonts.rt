@@ -5,7 +5,7 @@ ghost use Rattle.copies.specs.Marks.{define_bytes, faces_of};
 ghost use Rattle.copies.specs.Writing.{overwritten};
 ghost use Rattle.writing.specs.Pieces.{made};
 
-use crate::definitions::told;
+use crate::definitions::{definition, told};
 use crate::outputs::write_over;
 use crate::pieces::Piece;
 use copies::Pair;
@@ -17,7 +17,7 @@ fn defined<S: Shelf>(shelf: &S, n: usize, pair: Pair) -> Piece
     ensures made { made result ≡ define_bytes n pair.size (faces_of (S.means shelf.now) pair.face) }
     ensures short { length (made result) ≤ 79 }
 {
-    Piece::new().definition(n, pair.size, told(shelf, pair.face))
+    definition(n, pair.size, told(shelf, pair.face))
 }
 
 // How many bytes they take.

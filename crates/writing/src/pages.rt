@@ -1,14 +1,13 @@
 // A page of a copy: measured first, and then written.
-ghost use Rattle.std.specs.Prelude.{◌≡◌, ◌+◌, ◌^◌, ◌<◌, ◌≤◌, ◌∷◌, ◌++◌, length, take, IfOk, IfErr, OnOk, OnErr};
+ghost use Rattle.std.specs.Prelude.{◌≡◌, ◌+◌, ◌^◌, ◌<◌, ◌≤◌, ◌∷◌, ◌++◌, length, take, IfOk, OnOk, OnErr};
 ghost use Rattle.numbers.specs.Bytes.{digits};
-ghost use Rattle.shelf.specs.declared.refusals.Refusal.TheVariants.{PairsFull};
 ghost use Rattle.copies.specs.Files.{Opening as Opened};
-ghost use Rattle.copies.specs.Marks.{faces_of, pen_after_all};
-ghost use Rattle.copies.specs.Pages.{page_pen, page_bytes, with_page};
+ghost use Rattle.copies.specs.Marks.{faces_of};
+ghost use Rattle.copies.specs.Pages.{page_bytes, with_page};
 ghost use Rattle.copies.specs.Writing.{overwritten};
 ghost use Rattle.pairs.specs.Tables.{pairs_of};
 ghost use Rattle.writing.specs.Adding.{page_over};
-ghost use Rattle.writing.specs.Pens.{pen_of};
+ghost use Rattle.writing.specs.Measuring.{pen_behind, page_measured};
 ghost use Rattle.writing.specs.Pieces.{made};
 ghost use Rattle.writing.specs.Standings.{progress_of};
 
@@ -31,12 +30,10 @@ pub fn measure_page<S: Shelf>(
     standing: Standing,
     marks: &[Mark],
 ) -> Result<usize, Refusal>
-    ensures used { IfOk result (λ n. n ≡ (pen_after_all (faces_of (S.means shelf.now)) (page_pen (progress_of standing (pairs_of table.old))) marks.now).at + 1) }
-    ensures pairs { OnOk result (pairs_of table.new ≡ (pen_after_all (faces_of (S.means shelf.now)) (page_pen (progress_of standing (pairs_of table.old))) marks.now).pairs) }
-    ensures few { OnOk result (length (pen_after_all (faces_of (S.means shelf.now)) (page_pen (progress_of standing (pairs_of table.old))) marks.now).pairs ≤ 64) }
-    ensures near { IfOk result (λ n. n ≤ 2 ^ 63) }
-    ensures full { IfErr result (λ e. (e ≡ PairsFull) × (64 < length (pen_after_all (faces_of (S.means shelf.now)) (page_pen (progress_of standing (pairs_of table.old))) marks.now).pairs)) }
+    ensures measured { result ≡ page_measured (faces_of (S.means shelf.now)) (progress_of standing (pairs_of table.old)) marks.now }
+    ensures pairs { OnOk result (pairs_of table.new ≡ (pen_behind (faces_of (S.means shelf.now)) (progress_of standing (pairs_of table.old)) marks.now).pairs) }
     ensures kept { take (length (pairs_of table.old)) (pairs_of table.new) ≡ pairs_of table.old }
+    ensures near { IfOk result (λ n. n ≤ 2 ^ 63) }
 {
     let pen = pass_over(Pen::of_page(standing), shelf, table, marks)?;
     Ok(pen.at + 1)
@@ -59,10 +56,10 @@ fn write_page<S: Shelf>(
     marks: &[Mark],
     out: &mut [u8],
 ) -> Result<(), Refusal>
-    requires { (pen_after_all (faces_of (S.means shelf.now)) (page_pen (progress_of standing (pairs_of table.old))) marks.now).at + 1 ≤ length out.old }
-    ensures pairs { OnOk result (pairs_of table.new ≡ (pen_after_all (faces_of (S.means shelf.now)) (page_pen (progress_of standing (pairs_of table.old))) marks.now).pairs) }
+    requires { (pen_behind (faces_of (S.means shelf.now)) (progress_of standing (pairs_of table.old)) marks.now).at + 1 ≤ length out.old }
+    ensures pairs { OnOk result (pairs_of table.new ≡ (pen_behind (faces_of (S.means shelf.now)) (progress_of standing (pairs_of table.old)) marks.now).pairs) }
     ensures written { OnOk result (out.new ≡ overwritten standing.used (page_bytes (faces_of (S.means shelf.now)) (progress_of standing (pairs_of table.old)) (record { counts = counts.now; marks = marks.now })) out.old) }
-    ensures full { OnErr result (64 < length (pen_after_all (faces_of (S.means shelf.now)) (page_pen (progress_of standing (pairs_of table.old))) marks.now).pairs) }
+    ensures full { OnErr result (64 < length (pen_behind (faces_of (S.means shelf.now)) (progress_of standing (pairs_of table.old)) marks.now).pairs) }
 {
     let front = page_front(counts, standing.last);
     write_over(out, standing.used as usize, front.as_slice());

@@ -1,16 +1,13 @@
 // The pen of a page: where its writer stands, and the bytes of each mark from there.
-ghost use Rattle.std.specs.Prelude.{◌≡◌, ◌+◌, ◌^◌, ◌<◌, ◌≤◌, ◌++◌, List, length, ◌-ℤ◌, unsigned_abs, IfOk, IfErr, OnErr};
+ghost use Rattle.std.specs.Prelude.{◌≡◌, ◌+◌, ◌^◌, ◌<◌, ◌≤◌, ◌++◌, length, pos, ◌-ℤ◌, unsigned_abs, IfOk, IfErr, OnErr};
 ghost use Rattle.shelf.specs.declared.refusals.Refusal.TheVariants.{PairsFull};
-ghost use Rattle.copies.specs.declared.pairs.Pair.{Pair as Entry};
-ghost use Rattle.copies.specs.Pages.{page_pen};
 ghost use Rattle.copies.specs.Pairs.{pair_by, numbered, entered};
 ghost use Rattle.copies.specs.Marks.{faces_of, mark_h, mark_v, move_bytes, font_bytes, mark_bytes, pen_after};
 ghost use Rattle.pairs.specs.Tables.{pairs_of};
 ghost use Rattle.writing.specs.Pieces.{made};
 ghost use Rattle.writing.specs.Pens.{pen_of};
-ghost use Rattle.writing.specs.Standings.{progress_of};
 
-use crate::definitions::told;
+use crate::definitions::{definition, told};
 use crate::pieces::Piece;
 use crate::standings::Standing;
 use copies::Pair;
@@ -36,7 +33,7 @@ pub(crate) struct Pen {
 impl Pen {
     // The pen of a page that is put behind the bytes used.
     pub(crate) fn of_page(standing: Standing) -> Pen
-        ensures pen { (ps : List Entry) → pen_of result ps ≡ page_pen (progress_of standing ps) }
+        ensures pen { result ≡ record { h = pos 0; v = pos 0; last = None; at = standing.used + 45 } }
         ensures near { result.at < 2 ^ 33 }
     {
         Pen {
@@ -78,8 +75,9 @@ impl Pen {
         }
         let n = table.len();
         table.enter(pair)?;
-        let piece = piece.definition(n, pair.size, told(shelf, pair.face));
-        Ok((piece.selection(self.last, n), n))
+        let defined = definition(n, pair.size, told(shelf, pair.face));
+        let piece = piece.all(defined.as_slice()).selection(self.last, n);
+        Ok((piece, n))
     }
 
     // The bytes of a mark, and the pen behind it; a new pair is entered with the place of its definition.

@@ -1,4 +1,4 @@
-use Rattle.std.proofs.Common.{◌≡◌, ◌+◌, ◌≤◌, length, ap, sym, ◌∙◌, arith}
+use Rattle.std.proofs.Common.{◌≡◌, ◌+◌, ◌≤◌, length, ap, ◌∙◌, arith}
 use Rattle.copies.specs.Files.{fonts_bytes, closed_length}
 use Rattle.copies.specs.Marks.{faces_of}
 use Rattle.copies.specs.Writing.{overwritten}

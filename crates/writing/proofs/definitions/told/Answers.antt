@@ -1,4 +1,4 @@
-use Rattle.std.proofs.Common.{◌<◌, ◌≡◌, length, ap, sym, ◌∙◌, subst, arith}
+use Rattle.std.proofs.Common.{◌<◌, ◌≡◌, length, subst, arith}
 use Rattle.shelf.specs.Telling.{facts_in}
 use Rattle.copies.specs.Marks.{faces_of}
 use Rattle.writing.proofs.ShortNames.{short_name}

@@ -1,7 +1,5 @@
-use Rattle.std.proofs.Common.{◌≡◌, ◌+◌, ◌<◌, ◌≤◌, length, ap, subst, sym, ◌∙◌, arith}
-use Rattle.std.proofs.lemmas.Result.{err_from_is_err_and}
+use Rattle.std.proofs.Common.{length, ap, ◌∙◌, arith}
 use Rattle.copies.specs.Marks.{Pen, faces_of, marks_bytes, pen_after_all}
-use Rattle.copies.specs.Pages.{page_pen}
 use Rattle.copies.specs.Writing.{overwritten}
 use Rattle.pairs.specs.Tables.{pairs_of}
 use Rattle.writing.specs.Pens.{pen_of}
@@ -15,35 +13,11 @@ write_over-requires g c =
     let r = front_room F (progress_of c.args.standing (pairs_of c.args.table.now)) c.args.counts.now c.args.marks.now c.args.out.now c.requires in
     omega (arith, r, ap length c.as_slice.ensures.value)
 
-pub write_marks-requires-clause-room : goal.write_marks-requires-clause-room
-write_marks-requires-clause-room g c =
-    let F = faces_of (g.S.Shelf.means c.args.shelf.now) in
-    let e = ap (λ (q : Pen). (pen_after_all F q c.args.marks.now).at) (c.of_page.ensures.pen (pairs_of c.args.table.now)) in
-    omega (arith, e, c.requires)
-
-pub returns-in_err-pen-clause-full : goal.returns-in_err-pen-clause-full
-returns-in_err-pen-clause-full g c =
-    let F = faces_of (g.S.Shelf.means c.args.shelf.now) in
-    let p = err_from_is_err_and c.from_residual.result c.from_residual.ensures.1 in
-    rw (p.1) (subst (λ (q : Pen). 64 < length (pen_after_all F q c.args.marks.now).pairs) (c.of_page.ensures.pen (pairs_of c.args.table.now)) c.in_err-pen.ensures.full)
-
-pub write_over-requires-2 : goal.write_over-requires-2
-write_over-requires-2 g c =
-    let F = faces_of (g.S.Shelf.means c.args.shelf.now) in
-    let e = ap (λ (q : Pen). (pen_after_all F q c.args.marks.now).at) (c.of_page.ensures.pen (pairs_of c.args.table.now)) in
-    let d = ap (λ (q : Pen). q.at) c.in_ok-pen.ensures.done in
-    omega (arith, d, e, c.requires)
-
-pub returns-clause-pairs : goal.returns-clause-pairs
-returns-clause-pairs g c =
-    let F = faces_of (g.S.Shelf.means c.args.shelf.now) in
-    ap (λ (p : Pen). p.pairs) (c.in_ok-pen.ensures.done ∙ ap (λ q. pen_after_all F q c.args.marks.now) (c.of_page.ensures.pen (pairs_of c.args.table.now)))
-
 pub returns-clause-written : goal.returns-clause-written
 returns-clause-written g c =
     let F = faces_of (g.S.Shelf.means c.args.shelf.now) in
     let ps = pairs_of c.args.table.now in
-    let e = c.of_page.ensures.pen ps in
+    let e = ap (λ p. pen_of p ps) c.of_page.ensures.pen in
     let there = c.in_ok-pen.ensures.done ∙ ap (λ q. pen_after_all F q c.args.marks.now) e in
     laid_page F (progress_of c.args.standing ps) c.args.counts.now c.args.marks.now c.args.out.now c.write_over.new.out c.write_marks.new.out c.write_over-2.new.out c.as_slice.result.now c.in_ok-pen.pen.at c.requires
     (c.as_slice.ensures.value ∙ c.page_front-front.ensures.made)
