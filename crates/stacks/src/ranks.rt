@@ -1,13 +1,15 @@
 // Ranks made from the VF files that the command line names, on the faces.
-ghost use Rattle.std.specs.Prelude.{◌≡◌, OnOk, Ok};
+ghost use Rattle.std.specs.Prelude.{◌≡◌, IfOk, OnOk, Ok};
 ghost use Rattle.rank.specs.Adding.{added};
 ghost use Rattle.rank.specs.Held.{files_of};
+ghost use Rattle.rank.specs.Ranks.{rank_of};
+ghost use Rattle.stacks.specs.Alike.{Alike};
 
 use crate::faces::faces_of;
 use crate::refusing::refused;
 use rank::Rank;
 use shelf::Shelf;
-use std::alloc::Global;
+use std::alloc::{AllocError, Global};
 use terminal::{Failure, Font, Options};
 use tfm::TfmShelf;
 
@@ -31,7 +33,7 @@ fn ranked<S: Shelf + Drop>(
     fonts: Option<&Vec<Font>>,
 ) -> Result<Rank<S>, Failure> {
     let heap = rt.alloc();
-    let mut rank = Rank::new(below, heap)?;
+    let mut rank = empty(below, heap)?;
     if let Some(fonts) = fonts {
         for font in fonts.as_slice() {
             let file = terminal::read(rt, font.file)?;
@@ -39,6 +41,14 @@ fn ranked<S: Shelf + Drop>(
         }
     }
     Ok(rank)
+}
+
+// A rank without files, which means what is below it.
+#[tactic(auto, using(crate::proofs::Empty::empty_rank))]
+fn empty<S: Shelf + Drop>(below: S, heap: Global) -> Result<Rank<S>, AllocError>
+    ensures { IfOk result (λ r. Alike (rank_of (S.means r.below) (files_of r)) (S.means below)) }
+{
+    Rank::new(below, heap)
 }
 
 fn add<S: Shelf>(rank: &mut Rank<S>, font: &Font, file: &[u8], heap: Global) -> Result<(), Failure>
