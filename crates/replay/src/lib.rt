@@ -27,6 +27,6 @@ pub fn run_script(rt: &HostRuntime, words: &[String]) -> Result<Ended, Failure> 
             next = state.take(lines.as_slice(), at);
         }
     }
-    state.session.out.finish()?;
+    state.finish()?;
     Ok(Ended::Done)
 }

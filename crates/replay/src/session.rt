@@ -1,11 +1,13 @@
 // What the lines of a script share, whatever shelf there is: the byte strings that are named, the output buffer, and what is
 // printed.
 use crate::buffers::Buffer;
+use crate::current::Current;
+use crate::queries::Query;
 use crate::stops::Stop;
 use answers::Told;
 use script::{Number, Problem, Store};
 use shelf::Cause;
-use terminal::Output;
+use terminal::{Failure, Output};
 
 #[derive(Drop)]
 pub struct Session<'a> {
@@ -44,6 +46,25 @@ impl<'a> Session<'a> {
         self.buffer = Buffer::empty(self.rt.alloc());
         self.out.write_bytes(line);
         writeln!(self.out, "");
+    }
+
+    // A call that a shelf answers and that changes nothing.
+    pub fn ask(&mut self, shelf: &Current, call: &[&[u8]]) -> Result<(), Problem> {
+        let heap = self.rt.alloc();
+        let query = Query::parse(call, &self.store, heap)?;
+        shelf.ask(&query, heap, &mut self.out)?;
+        writeln!(self.out, ".");
+        Ok(())
+    }
+
+    pub fn finish(self) -> Result<(), Failure> {
+        let Session {
+            rt: _,
+            out,
+            store: _,
+            buffer: _,
+        } = self;
+        out.finish()
     }
 
     // The lines that ask neither a shelf nor a run. Those that name or change bytes have no answer.

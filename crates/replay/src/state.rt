@@ -3,12 +3,12 @@ ghost use Rattle.std.specs.Prelude.{◌≡◌, ℕ, IfOk, Some, slice_index_or};
 ghost use Rattle.script.specs.Spelling.{unsigned};
 
 use crate::current::Current;
-use crate::queries::Query;
 use crate::session::Session;
 use crate::stops::Stop;
 use answers::Told;
 use script::Problem;
 use shelf::Shelf;
+use terminal::Failure;
 use tfm::{Entry, TfmShelf};
 
 #[derive(Drop)]
@@ -101,12 +101,13 @@ impl<'a> State<'a> {
 
     // A call that changes nothing.
     fn ask(&mut self, call: &[&[u8]]) -> Result<(), Stop> {
-        let heap = self.session.rt.alloc();
         let shelf = self.shelf.as_ref().ok_or(Problem::NoShelf)?;
-        let query = Query::parse(call, &self.session.store, heap)?;
-        shelf.ask(&query, heap, &mut self.session.out)?;
-        writeln!(self.session.out, ".");
-        Ok(())
+        Ok(self.session.ask(shelf, call)?)
+    }
+
+    pub fn finish(self) -> Result<(), Failure> {
+        let State { session, shelf: _ } = self;
+        session.finish()
     }
 }
 
