@@ -108,9 +108,12 @@ module _ (m : Meaning) (law : Lawful m) (o : Opening) (ps : List Page) (w : Writ
         (all-at (GoodPage m) ps newer p w.good is) (all-at Counted ps newer p w.counted is) stands_before.1
 
     pub page-reads : PageReads m o ps n p
-    page-reads =
-        (place, found, page-counts F s place before p stands.0 (all-at Counted ps newer p w.counted is) stands.1,
-        rw (closed-legal m law o ps w, found, runs) refl)
+    page-reads = (
+      place,
+      found,
+      page-counts F s place before p stands.0 (all-at Counted ps newer p w.counted is) stands.1,
+      rw (closed-legal m law o ps w, found, runs) refl,
+    )
 
   pub all_read : Reads m o ps
   all_read = record { is-legal = closed-legal m law o ps w; pages = page-reads }

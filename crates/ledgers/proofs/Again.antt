@@ -205,8 +205,8 @@ module _ (m : Meaning) (o : Opening) where
         ∙ ap (λ (x : Progress). ruling (long (closed_length F o x)) (close_refusal F o x (length out))) come
         ∙ ap (ruling (long long-file)) none in
         let answer-is : (stepped v close out).answer ≡ long long-file = g.answer ∙ ruling-is in
-        let ended = ended-by alone o cs as' v out h long-file answer-is in
-        ( subst (AllByRecursion (λ x. x ≡ done)) (sym t.answers) r.all-done
-        , answer-is
-        , ended.bytes ∙ ap (λ (x : Ledger). closed F o (pages_of alone o x.sources)) r.ledger-is ∙ ap (closed F o) (pages-again [] all refl) ∙ sym file.bytes
+        let ended = ended-by alone o cs as' v out h long-file answer-is in (
+          subst (AllByRecursion (λ x. x ≡ done)) (sym t.answers) r.all-done,
+          answer-is,
+          ended.bytes ∙ ap (λ (x : Ledger). closed F o (pages_of alone o x.sources)) r.ledger-is ∙ ap (closed F o) (pages-again [] all refl) ∙ sym file.bytes,
         )

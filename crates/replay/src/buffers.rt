@@ -42,7 +42,8 @@ impl Buffer {
     // The bytes that a caller writes over those at a place.
     pub fn poke(&mut self, place: usize, bytes: &[u8]) -> Result<(), Problem> {
         let end = place.checked_add(bytes.len()).ok_or(Problem::NoSuchPlace)?;
-        let part = self.bytes
+        let part = self
+            .bytes
             .as_mut_slice()
             .get_mut(place..end)
             .ok_or(Problem::NoSuchPlace)?;
@@ -61,7 +62,8 @@ impl Buffer {
 }
 
 fn hash(bytes: &[u8]) -> u64 {
-    bytes
-        .iter()
-        .fold(BASIS, |hash, byte| (hash ^ u64::from(*byte)).wrapping_mul(PRIME))
+    bytes.iter().fold(
+        BASIS,
+        |hash, byte| (hash ^ u64::from(*byte)).wrapping_mul(PRIME),
+    )
 }

@@ -139,7 +139,11 @@ impl Session<'_> {
             Ok(length) => {
                 writeln!(self.out, "ok {length}");
                 writeln!(self.out, "hash {:016x}", self.buffer.hash());
-                writeln!(self.out, "file {:016x}\n.", self.buffer.hash_of_front(length));
+                writeln!(
+                    self.out,
+                    "file {:016x}\n.",
+                    self.buffer.hash_of_front(length)
+                );
             }
             Err(refusal) => {
                 writeln!(self.out, "{}", Told(refusal));

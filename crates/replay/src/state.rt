@@ -52,7 +52,9 @@ impl<'a> State<'a> {
             [b"rank"] => self.put_rank()?,
             [b"add", name, id] => self.add_file(name, id)?,
             [b"alone"] => self.take_faces()?,
-            [b"count" | b"find" | b"face" | b"character" | b"read", ..] => self.ask(words.as_slice())?,
+            [b"count" | b"find" | b"face" | b"character" | b"read", ..] => self.ask(
+                words.as_slice(),
+            )?,
             [b"open", ..] => {
                 let shelf = self.shelf.as_ref().ok_or(Problem::NoShelf)?;
                 return Ok(shelf.run_on(&mut self.session, words.as_slice(), lines, next));
