@@ -1,8 +1,8 @@
 -- The commands by their words.
 use Rattle.std.specs.Prelude.{ℕ, cond, ◌||◌, codes, List, Option, Some, None}
 use Rattle.std.specs.Str.{bytes_eq}
-use Rattle.cli.specs.declared.commands.Command.{Command}
-use Rattle.cli.specs.declared.commands.Command.TheVariants.{Faces, Character, Replay, Help}
+use Rattle.cli.specs.declared.named.Command.{Command}
+use Rattle.cli.specs.declared.named.Command.TheVariants.{Faces, Character, Replay, Help}
 
 abbrev pub command_named : List ℕ → Option Command
 command_named word =

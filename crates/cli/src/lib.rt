@@ -1,10 +1,10 @@
 // Chooses the command that the arguments ask for. The program's `main` calls `run` alone.
 #![tactic(auto)]
 
-mod commands;
+mod named;
 mod usage;
 
-use commands::Command;
+use named::Command;
 use std::env;
 use std::process::ExitCode;
 use terminal::{Ended, Failure};
