@@ -54,6 +54,14 @@ impl Lists {
         front(self.chain.as_slice(), &LINK_FILLER).0
     }
 
+    // As if nothing had been written to the front of the mark list.
+    pub fn clear_marks(&mut self) {
+        let count = self.marks_written().len();
+        for mark in self.marks.as_mut_slice().iter_mut().take(count) {
+            *mark = MARK_FILLER;
+        }
+    }
+
     pub fn tell(&self, out: &mut Output) {
         write!(out, "{self}");
     }

@@ -34,6 +34,9 @@ pub fn obey(rt: &HostRuntime, words: &[String]) -> Result<Ended, Failure> {
     match Command::named(first.as_str()) {
         Some(Command::Faces) => inspect::show_faces(rt, rest),
         Some(Command::Character) => inspect::show_character(rt, rest),
+        Some(Command::Pages) => copying::show_pages(rt, rest),
+        Some(Command::Marks) => copying::show_marks(rt, rest),
+        Some(Command::Flatten) => copying::flatten(rt, rest),
         Some(Command::Replay) => replay::run_script(rt, rest),
         Some(Command::Help) => {
             rt.print(USAGE)?;

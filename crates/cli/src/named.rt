@@ -6,6 +6,9 @@ ghost use Rattle.cli.specs.Commands.{command_named};
 pub enum Command {
     Faces,
     Character,
+    Pages,
+    Marks,
+    Flatten,
     Replay,
     Help,
 }
@@ -17,6 +20,9 @@ impl Command {
         match word {
             "faces" => Some(Command::Faces),
             "character" => Some(Command::Character),
+            "pages" => Some(Command::Pages),
+            "marks" => Some(Command::Marks),
+            "flatten" => Some(Command::Flatten),
             "replay" => Some(Command::Replay),
             "help" | "--help" => Some(Command::Help),
             _ => None,

@@ -1,7 +1,7 @@
 // How the program is called.
 
 pub const USAGE: &str = "\
-dviflat shows the fonts that TeX's DVI files are set in
+dviflat reads TeX's DVI through virtual fonts, and writes it out flat
 
   dviflat faces --tfm NAME=FILE.. [--size S --text TEXT]
       makes a shelf of the TFM files, and shows of each face its check sum,
@@ -14,6 +14,20 @@ dviflat shows the fonts that TeX's DVI files are set in
       top, at most four ranks, the lowest first; shows the marks of character C
       (0 to 255) of the font NAME at a size of S DVI units, set at H,V or else
       at 0,0, and its width; or the refusal, and where it happened
+
+  dviflat pages DOC
+      shows a document's pages, each with its place and its ten counts, and the
+      fonts that it defines
+
+  dviflat marks DOC PAGE --tfm NAME=FILE.. --rank NAME=FILE,NAME=FILE..
+      shows the ten counts of a page and its marks, one a line; or the refusal,
+      and where it happened
+
+  dviflat flatten DOC -o OUT --tfm NAME=FILE.. --rank NAME=FILE,NAME=FILE..
+          [--pages A-B] [--check]
+      copies the pages to a file whose fonts are faces alone, and shows how
+      many pages, marks, pairs and bytes there are; --check, first or last,
+      reads the file back and copies it again, and compares
 
   dviflat replay SCRIPT
       runs a script of calls on the library, and prints the answer to each

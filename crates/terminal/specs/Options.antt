@@ -4,12 +4,12 @@ use Rattle.std.specs.declared.alloc.Global.{Global}
 use Rattle.std.specs.Option.{option_map}
 use Rattle.std.specs.String.{string_bytes}
 use Rattle.terminal.specs.declared.kinds.Kind.{Kind}
-use Rattle.terminal.specs.declared.kinds.Kind.TheVariants.{Tfm, Rank, Font, Size, Code, At, Text}
+use Rattle.terminal.specs.declared.kinds.Kind.TheVariants.{Tfm, Rank, Font, Size, Code, At, Text, Out, Pages}
 use Rattle.terminal.specs.declared.failure.Failure.{Failure}
 use Rattle.terminal.specs.declared.failure.Failure.TheVariants.{Told, Output, NoMemory}
 use Rattle.terminal.specs.declared.options.Options.{Options}
 use Rattle.terminal.specs.Words.{named}
-use Rattle.terminal.specs.Values.{Named, font_view, font_given, fonts_given, size_given, code_given, point_given}
+use Rattle.terminal.specs.Values.{Named, font_view, font_given, fonts_given, size_given, code_given, point_given, range_given}
 
 pub record Given : Type 0 where
   pub fonts : List Named
@@ -19,9 +19,11 @@ pub record Given : Type 0 where
   pub code : Option ℕ
   pub at : Option (ℤ × ℤ)
   pub text : Option (List ℕ)
+  pub out : Option (List ℕ)
+  pub pages : Option (ℕ × ℕ)
 
 abbrev pub fresh : Given
-fresh = record { fonts = []; ranks = []; font = None; size = None; code = None; at = None; text = None }
+fresh = record { fonts = []; ranks = []; font = None; size = None; code = None; at = None; text = None; out = None; pages = None }
 
 abbrev pub given_of : Options → Given
 given_of o =
@@ -33,6 +35,8 @@ given_of o =
       code = o.code;
       at = o.at;
       text = option_map (λ s. s.now) o.text;
+      out = option_map (λ s. s.now) o.out;
+      pages = o.pages;
     }
 
 -- an option's value put to what was given before; none where the option does not take it
@@ -44,6 +48,8 @@ put g Size value = option_map (λ n. record g { size = Some n }) (size_given val
 put g Code value = option_map (λ n. record g { code = Some n }) (code_given value)
 put g At value = option_map (λ p. record g { at = Some p }) (point_given value)
 put g Text value = Some (record g { text = Some value })
+put g Out value = Some (record g { out = Some value })
+put g Pages value = option_map (λ r. record g { pages = Some r }) (range_given value)
 
 -- whether there is such a value, and what is given then
 abbrev pub PutAs : Option Given → Given → Bool → Type 0

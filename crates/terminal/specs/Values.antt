@@ -29,6 +29,14 @@ point_in None = None
 abbrev pub point_given : List ℕ → Option (ℤ × ℤ)
 point_given text = point_in (cut_at 44 text)
 
+abbrev pub range_in : Option (List ℕ × List ℕ) → Option (ℕ × ℕ)
+range_in (Some p) = option_zip (unsigned p.0) (unsigned p.1)
+range_in None = None
+
+-- two numbers around a minus sign
+abbrev pub range_given : List ℕ → Option (ℕ × ℕ)
+range_given text = range_in (cut_at 45 text)
+
 -- a name and a file
 pub record Named : Type 0 where
   pub name : List ℕ

@@ -12,6 +12,8 @@ pub enum Kind {
     Code,
     At,
     Text,
+    Out,
+    Pages,
 }
 
 impl Kind {
@@ -33,6 +35,8 @@ impl Kind {
             Kind::Code => "--code",
             Kind::At => "--at",
             Kind::Text => "--text",
+            Kind::Out => "-o",
+            Kind::Pages => "--pages",
         }
     }
 
@@ -46,6 +50,8 @@ impl Kind {
             Kind::Code => "a number from 0 to 255",
             Kind::At => "two numbers, as H,V",
             Kind::Text => "a text",
+            Kind::Out => "a file",
+            Kind::Pages => "two numbers, as A-B",
         }
     }
 }

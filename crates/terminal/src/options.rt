@@ -29,6 +29,10 @@ pub struct Options<'a> {
     // A start point, h and v.
     pub at: Option<(i64, i64)>,
     pub text: Option<&'a str>,
+    // The file to write.
+    pub out: Option<&'a str>,
+    // The first page and the last.
+    pub pages: Option<(usize, usize)>,
 }
 
 impl<'a> Options<'a> {
@@ -67,6 +71,8 @@ impl<'a> Options<'a> {
             code: None,
             at: None,
             text: None,
+            out: None,
+            pages: None,
         }
     }
 
@@ -127,6 +133,14 @@ impl<'a> Options<'a> {
             Kind::Text => {
                 self.text = Some(value);
                 true
+            }
+            Kind::Out => {
+                self.out = Some(value);
+                true
+            }
+            Kind::Pages => {
+                self.pages = values::range_of(value);
+                self.pages.is_some()
             }
         })
     }

@@ -2,8 +2,8 @@
 ghost use Rattle.std.specs.Prelude.{◌≡◌, ◌==◌, map, IfOk};
 ghost use Rattle.std.specs.List.{slice_split};
 ghost use Rattle.std.specs.Option.{option_map};
-ghost use Rattle.script.specs.Spelling.{signed};
-ghost use Rattle.terminal.specs.Values.{size_given, code_given, point_given, font_given, font_view, fonts_given, all_fonts};
+ghost use Rattle.script.specs.Spelling.{signed, unsigned};
+ghost use Rattle.terminal.specs.Values.{size_given, code_given, point_given, range_given, font_given, font_view, fonts_given, all_fonts};
 
 use script::Number;
 use std::alloc::{AllocError, Global};
@@ -37,6 +37,20 @@ pub fn point_of(value: &str) -> Option<(i64, i64)>
 {
     let (h, v) = value.split_once(',')?;
     number_of(h).zip(number_of(v))
+}
+
+// The first page and the last, as A-B.
+pub fn range_of(value: &str) -> Option<(usize, usize)>
+    ensures { result ≡ range_given value.now }
+{
+    let (first, last) = value.split_once('-')?;
+    count_of(first).zip(count_of(last))
+}
+
+fn count_of(text: &str) -> Option<usize>
+    ensures { result ≡ unsigned text.now }
+{
+    usize::spelled(text.as_bytes()).ok()
 }
 
 fn number_of(text: &str) -> Option<i64>
