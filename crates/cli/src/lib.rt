@@ -36,7 +36,7 @@ pub fn obey(rt: &HostRuntime, words: &[String]) -> Result<Ended, Failure> {
         Some(Command::Character) => inspect::show_character(rt, rest),
         Some(Command::Pages) => copying::show_pages(rt, rest),
         Some(Command::Marks) => copying::show_marks(rt, rest),
-        Some(Command::Flatten) => copying::flatten(rt, rest),
+        Some(Command::Flatten) => copying::write_flat(rt, rest),
         Some(Command::Replay) => replay::run_script(rt, rest),
         Some(Command::Help) => {
             rt.print(USAGE)?;

@@ -11,7 +11,7 @@ use stacks::{Stack, stack_of};
 use std::fs;
 use terminal::{Ended, Failure, Output};
 
-pub fn flatten(rt: &HostRuntime, words: &[String]) -> Result<Ended, Failure> {
+pub fn write_flat(rt: &HostRuntime, words: &[String]) -> Result<Ended, Failure> {
     let heap = rt.alloc();
     let job = Job::parse(words, heap)?;
     let stack = stack_of(rt, &job.options)?;

@@ -11,6 +11,6 @@ mod marks;
 mod pages;
 mod told;
 
-pub use flatten::flatten;
+pub use flatten::write_flat;
 pub use marks::show_marks;
 pub use pages::show_pages;
