@@ -1,6 +1,7 @@
 // Worked examples: those about definitions as one theorem, those about calls as tests.
 #![tactic(auto)]
 
+ghost use Rattle.cases.specs.Examples.{WorkedExamples};
 ghost use Rattle.cases.specs.Worked.{WorkedValues};
 
 #[cfg(test)]
@@ -18,4 +19,10 @@ mod sample;
 #[tactic(auto, unfolding(numbers::specs::FixWords::scaled, numbers::specs::FixWords::halvings))]
 pub fn worked_values()
     ensures { WorkedValues }
+{}
+
+// The worked examples of docs/FORMATS.md and docs/RUNS.md follow from the definitions: a page copied through a virtual font,
+// struck, and the file closed.
+pub fn worked_examples()
+    ensures { WorkedExamples }
 {}
