@@ -1,5 +1,5 @@
 -- The front of a list, up to the first entry that passes a test.
-use Rattle.std.proofs.Common.{arith, tests, ◌≡◌, ℕ, ◌≤◌, Bool, true, false, cond, List, length, nat_lt, Some, None, refl}
+use Rattle.std.proofs.Common.{arith, ◌≡◌, ℕ, ◌≤◌, Bool, true, false, cond, List, length, nat_lt, Some, None, refl}
 use Rattle.std.specs.List.{position, position_or_len}
 use Rattle.std.specs.Option.{unwrap_or}
 use Rattle.std.proofs.lemmas.List.Sums.{prefix_len-le-length}
