@@ -6,6 +6,7 @@ ghost use Rattle.cli.specs.Commands.{command_named};
 pub enum Command {
     Faces,
     Character,
+    Pages,
     Replay,
     Help,
 }
@@ -17,6 +18,7 @@ impl Command {
         match word {
             "faces" => Some(Command::Faces),
             "character" => Some(Command::Character),
+            "pages" => Some(Command::Pages),
             "replay" => Some(Command::Replay),
             "help" | "--help" => Some(Command::Help),
             _ => None,

@@ -1,7 +1,7 @@
 // How the program is called.
 
 pub const USAGE: &str = "\
-dviflat shows the fonts that TeX's DVI files are set in
+dviflat shows TeX's DVI files and the fonts that they are set in
 
   dviflat faces --tfm NAME=FILE.. [--size S --text TEXT]
       makes a shelf of the TFM files, and shows of each face its check sum,
@@ -14,6 +14,10 @@ dviflat shows the fonts that TeX's DVI files are set in
       top, at most four ranks, the lowest first; shows the marks of character C
       (0 to 255) of the font NAME at a size of S DVI units, set at H,V or else
       at 0,0, and its width; or the refusal, and where it happened
+
+  dviflat pages DOCUMENT
+      shows how many pages a DVI document has and its magnification, where each
+      page begins and its ten counters, and the fonts that are defined
 
   dviflat replay SCRIPT
       runs a script of calls on the library, and prints the answer to each
