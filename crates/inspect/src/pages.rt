@@ -26,7 +26,11 @@ pub fn show_pages(rt: &HostRuntime, words: &[String]) -> Result<Ended, Failure> 
     }
     for (_, definition) in entries_of(bytes, document) {
         if let Some(font) = definition {
-            write!(out, "font {} {} {} {} ", font.number, font.size, font.design, font.checksum);
+            write!(
+                out,
+                "font {} {} {} {} ",
+                font.number, font.size, font.design, font.checksum
+            );
             out.write_bytes(font.name);
             writeln!(out, "");
         }
