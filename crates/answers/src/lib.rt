@@ -4,7 +4,9 @@
 mod lines;
 mod lists;
 mod meanings;
+mod refusing;
 
 pub use lines::Told;
 pub use lists::Lists;
 pub use meanings::meaning;
+pub use refusing::{place_of, refused};

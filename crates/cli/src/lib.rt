@@ -34,7 +34,7 @@ pub fn obey(rt: &HostRuntime, words: &[String]) -> Result<Ended, Failure> {
     match Command::named(first.as_str()) {
         Some(Command::Faces) => inspect::show_faces(rt, rest),
         Some(Command::Character) => inspect::show_character(rt, rest),
-        Some(Command::Pages) => copying::show_pages(rt, rest),
+        Some(Command::Pages) => inspect::show_pages(rt, rest),
         Some(Command::Marks) => copying::show_marks(rt, rest),
         Some(Command::Flatten) => copying::write_flat(rt, rest),
         Some(Command::Replay) => replay::run_script(rt, rest),

@@ -16,8 +16,8 @@ dviflat reads TeX's DVI through virtual fonts, and writes it out flat
       at 0,0, and its width; or the refusal, and where it happened
 
   dviflat pages DOC
-      shows a document's pages, each with its place and its ten counts, and the
-      fonts that it defines
+      shows how many pages a DVI document has and its magnification, where each
+      page begins and its ten counters, and the fonts that are defined
 
   dviflat marks DOC PAGE --tfm NAME=FILE.. --rank NAME=FILE,NAME=FILE..
       shows the ten counts of a page and its marks, one a line; or the refusal,

@@ -3,11 +3,9 @@ use crate::checks::check_file;
 use crate::copier::{Copier, Stopped};
 use crate::fonts::count_fonts;
 use crate::jobs::Job;
-use crate::told::refused;
 use answers::{Told, meaning};
-use document::legal;
-use shelf::Shelf;
-use stacks::{Stack, stack_of};
+use inspect::legal_document;
+use stacks::stack_of;
 use std::fs;
 use terminal::{Ended, Failure, Output};
 
@@ -15,9 +13,8 @@ pub fn write_flat(rt: &HostRuntime, words: &[String]) -> Result<Ended, Failure> 
     let heap = rt.alloc();
     let job = Job::parse(words, heap)?;
     let stack = stack_of(rt, &job.options)?;
-    let read = terminal::read(rt, job.file)?;
+    let (read, stated) = legal_document(rt, job.file)?;
     let document = read.as_slice();
-    let stated = legal(document).try_map_err(|refusal| refused(job.file, refusal, heap))?;
     let (first, last) = job.pages.unwrap_or((1, usize::from(stated.pages)));
     let mut copier = Copier::new(heap)?;
     let mut out = Output::new(rt);

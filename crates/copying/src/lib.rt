@@ -1,4 +1,4 @@
-// The commands over documents: `pages`, `marks` and `flatten`.
+// The commands that read a document over the fonts of the command line: `marks` and `flatten`.
 #![tactic(auto)]
 
 mod checks;
@@ -8,9 +8,6 @@ mod fonts;
 mod jobs;
 mod lists;
 mod marks;
-mod pages;
-mod told;
 
 pub use flatten::write_flat;
 pub use marks::show_marks;
-pub use pages::show_pages;

@@ -1,9 +1,8 @@
 // `marks`: shows the marks of a page.
 use crate::lists::{Page, page_of};
-use crate::pages::show_counts;
-use crate::told::refused;
-use answers::{Told, meaning};
-use document::{legal, page_place};
+use answers::{Told, meaning, refused};
+use document::page_place;
+use inspect::{legal_document, show_counts};
 use script::Number;
 use shelf::Refusal;
 use stacks::stack_of;
@@ -16,17 +15,15 @@ pub fn show_marks(rt: &HostRuntime, words: &[String]) -> Result<Ended, Failure> 
     let [file, page, options @ ..] = words else {
         return Err(Failure::Told(format!(in heap; "marks takes a document and a page")?));
     };
-    let file = file.as_str();
     let Ok(page) = usize::spelled(page.as_bytes()) else {
         return Err(Failure::Told(format!(in heap; "marks: no page number: {page}")?));
     };
     let options = Options::parse("marks", &KNOWN, options, heap)?;
     let stack = stack_of(rt, &options)?;
-    let read = terminal::read(rt, file)?;
+    let (read, stated) = legal_document(rt, file.as_str())?;
     let bytes = read.as_slice();
-    let stated = legal(bytes).try_map_err(|refusal| refused(file, refusal, heap))?;
     let Some(place) = page_place(bytes, stated, page) else {
-        return Err(refused(file, Refusal::NoPage, heap)?);
+        return Err(refused(Some(file.as_str()), Refusal::NoPage, heap)?);
     };
     let mut out = Output::new(rt);
     write!(out, "counts");

@@ -17,7 +17,7 @@ const BEFORE_DEFINITIONS: usize = 242;
 // The commands that stand from `at` on and before `to`: the place of each, and its definition if it is one.
 // The bytes end where the 249 stands.
 #[derive(Clone, Copy)]
-pub(crate) struct Entries<'a> {
+pub struct Entries<'a> {
     pub(crate) front: &'a [u8],
     pub(crate) at: usize,
     pub(crate) to: usize,

@@ -1,5 +1,5 @@
 // The definition of a font number in the postamble.
-ghost use Rattle.std.specs.Prelude.{◌≡◌, length};
+ghost use Rattle.std.specs.Prelude.{◌≡◌, ◌+◌, ◌-◌, ◌^◌, min, length, take};
 ghost use Rattle.std.specs.Option.{option_map};
 ghost use Rattle.commands.specs.Shapes.{defines as defined_by};
 ghost use Rattle.document.specs.Fonts.{font_by, font_from};
@@ -9,13 +9,23 @@ use crate::entries::Entries;
 use commands::Definition;
 use numbers::part;
 
+// The commands of the postamble behind its numbers, of which each that is no 138 defines a font.
+pub fn entries_of(bytes: &[u8], document: Document) -> Entries<'_>
+    ensures front { result.front.now ≡ take document.end bytes.now }
+    ensures at { result.at ≡ min (document.post + 29) (2 ^ 64 - 1) }
+    ensures to { result.to ≡ length result.front.now }
+{
+    Entries::new(
+        part(bytes, 0, document.end),
+        document.post.saturating_add(29),
+    )
+}
+
 // The first definition of a number in the postamble.
 pub fn font_by(bytes: &[u8], document: Document, number: u32) -> Option<Definition<'_>>
     ensures { option_map defined_by result ≡ font_by bytes.now document number }
 {
-    let front = part(bytes, 0, document.end);
-    let from = document.post.saturating_add(29);
-    font_from(Entries::new(front, from), number)
+    font_from(entries_of(bytes, document), number)
 }
 
 // The same among commands to the end of their bytes.

@@ -13,6 +13,7 @@ mod windows;
 
 pub use cases::legal_cases;
 pub use documents::Document;
-pub use fonts::font_by;
+pub use entries::Entries;
+pub use fonts::{entries_of, font_by};
 pub use legality::legal;
 pub use pages::page_place;

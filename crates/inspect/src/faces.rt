@@ -1,5 +1,8 @@
 // `faces`: shows what a shelf of TFM files holds.
-ghost use Rattle.std.specs.Prelude.{◌≡◌, ◌<◌, ◌≤◌};
+ghost use Rattle.std.specs.Prelude.{◌≡◌, ◌<◌, ◌≤◌, pos};
+ghost use Rattle.shelf.specs.Answers.{answer};
+ghost use Rattle.shelf.specs.Meaning.{called};
+ghost use Rattle.inspect.specs.Widths.{width_answered};
 
 use crate::points::Points;
 use shelf::{Asked, Mark, Shelf};
@@ -79,7 +82,10 @@ impl FaceOn<'_> {
             .count()
     }
 
-    fn width(&self, size: u32, code: u8) -> Option<i64> {
+    // The width that the code comes to at a size, in no more marks than one; none where it is refused.
+    fn width(&self, size: u32, code: u8) -> Option<i64>
+        ensures { result ≡ width_answered (answer (called (⟦<TfmShelf as Shelf>⟧.means self.now.shelf.now) self.now.k size code (pos 0) (pos 0)) 1) }
+    {
         let mut marks = [Mark::Rule {
             height: 0,
             width: 0,

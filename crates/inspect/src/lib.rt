@@ -1,10 +1,14 @@
-// The commands that show what fonts hold.
+// The commands that show what fonts and documents hold.
 #![tactic(auto)]
 
 mod asking;
 mod characters;
+mod documents;
 mod faces;
+mod pages;
 mod points;
 
 pub use characters::show_character;
 pub use faces::show_faces;
+pub use documents::legal_document;
+pub use pages::{show_counts, show_pages};

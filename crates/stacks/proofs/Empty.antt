@@ -1,16 +1,14 @@
 -- A rank without files means what is below it.
-use Rattle.std.proofs.Common.{◌≡◌, ℕ, ◌-◌, ◌<◌, List, [], ◌++◌, map, length, take, nat_lt, ℤ, Ok, Err, Result, ap, ◌∙◌, sym, refl}
+use Rattle.std.proofs.Common.{◌≡◌, ℕ, ◌-◌, [], ◌++◌, map, length, nat_lt, ℤ, Ok, Err, Result, ap, ◌∙◌, sym, refl}
 use Rattle.std.proofs.lemmas.Bool.{cond-true, lt-ltb}
 use Rattle.std.proofs.lemmas.List.{append-nil}
 use Rattle.std.proofs.Math.Seq.{take-nil}
-use Rattle.std.specs.List.{slice_get}
-use Rattle.shelf.specs.declared.asked.Asked.{Asked}
 use Rattle.shelf.specs.declared.refusals.Cause.{Cause}
 use Rattle.shelf.specs.Meaning.{Meaning, called, started}
 use Rattle.shelf.specs.Served.{called-fault, called_runs}
 use Rattle.shelf.specs.Starting.{passed}
-use Rattle.rank.specs.Entries.{Entry, entry_name}
-use Rattle.rank.specs.Ranks.{rank_of, rank_meaning, file_outcome, fitting}
+use Rattle.rank.specs.Entries.{entry_name}
+use Rattle.rank.specs.Ranks.{rank_of, fitting}
 use Rattle.stacks.specs.Alike.{Alike}
 
 module _ (m : Meaning) where

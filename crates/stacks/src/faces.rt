@@ -1,7 +1,7 @@
 // Faces made from the TFM files that the command line names.
 ghost use Rattle.std.specs.Prelude.{◌≡◌, ◌+◌, ◌*◌, ◌<◌, ◌≤◌, ℕ, List, ◌∷◌, [], ◌++◌, OnOk, length, take};
 
-use crate::refusing::refused;
+use answers::refused;
 use shelf::Refusal;
 use std::alloc::AllocError;
 use terminal::{Failure, Font};
@@ -19,7 +19,7 @@ pub fn faces_of(rt: &HostRuntime, fonts: &[Font]) -> Result<TfmShelf, Failure> {
     }
     TfmShelf::new(loaded.bytes.as_slice(), loaded.entries.as_slice(), heap).try_map_err(
         |why| match why {
-            NotMade::Refused(refusal) => Ok(refused(file_of(refusal, fonts), None, refusal, heap)?),
+            NotMade::Refused(refusal) => Ok(refused(file_of(refusal, fonts), refusal, heap)?),
             NotMade::NoMemory(error) => Ok(error.into()),
         },
     )

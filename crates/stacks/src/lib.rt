@@ -3,7 +3,6 @@
 
 mod faces;
 mod ranks;
-mod refusing;
 
 pub use faces::faces_of;
 pub use ranks::{Stack, stack_of};

@@ -6,7 +6,7 @@ ghost use Rattle.rank.specs.Ranks.{rank_of};
 ghost use Rattle.stacks.specs.Alike.{Alike};
 
 use crate::faces::faces_of;
-use crate::refusing::refused;
+use answers::refused;
 use rank::Rank;
 use shelf::Shelf;
 use std::alloc::{AllocError, Global};
@@ -55,10 +55,6 @@ fn add<S: Shelf>(rank: &mut Rank<S>, font: &Font, file: &[u8], heap: Global) -> 
     ensures added { OnOk result ((files_of rank.new, Ok tt) ≡ added (S.means rank.old.below) (files_of rank.old) font.now.name.now file.now) }
     ensures below { rank.new.below ≡ rank.old.below }
 {
-    rank.add(font.name.as_bytes(), file).try_map_err(|refusal| Ok(refused(
-        Some(font.file),
-        refusal.value(),
-        refusal,
-        heap,
-    )?))
+    rank.add(font.name.as_bytes(), file)
+        .try_map_err(|refusal| Ok(refused(Some(font.file), refusal, heap)?))
 }

@@ -1,10 +1,9 @@
 -- Options read from words, two by two.
-use Rattle.std.proofs.Common.{rules, arith, ◌≡◌, ℕ, ◌-◌, ◌<◌, ◌≤◌, List, [], ◌∷◌, length, get_or, take, drop, Option, Some, None, Result, Ok, Err, ap, ◌∙◌, sym, refl, String}
+use Rattle.std.proofs.Common.{arith, ◌≡◌, ℕ, ◌-◌, ◌≤◌, List, [], ◌∷◌, length, get_or, take, drop, Option, Some, None, Err, ◌∙◌, refl, String}
 use Rattle.std.specs.declared.alloc.Global.{Global}
 use Rattle.std.specs.String.{string_bytes}
 use Rattle.std.proofs.lemmas.List.{take_all}
 use Rattle.terminal.specs.declared.kinds.Kind.{Kind}
-use Rattle.terminal.specs.declared.options.Options.{Options}
 use Rattle.terminal.specs.declared.failure.Failure.{Failure}
 use Rattle.terminal.specs.declared.failure.Failure.TheVariants.{Told, Output, NoMemory}
 use Rattle.terminal.specs.Options.{Given, taken, and_then, parsed, given_of, ToldUnless}

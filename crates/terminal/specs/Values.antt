@@ -1,5 +1,5 @@
 -- What the values of options spell.
-use Rattle.std.specs.Prelude.{ℕ, ◌^◌, ◌==◌, Bool, cond, nat_lt, List, [], ◌∷◌, length, ℤ, Option, Some, None}
+use Rattle.std.specs.Prelude.{ℕ, ◌==◌, Bool, cond, nat_lt, List, [], ◌∷◌, length, ℤ, Option, Some, None}
 use Rattle.std.specs.Option.{option_zip}
 use Rattle.std.specs.List.{before_first, after_first, position_or_len, slice_split}
 use Rattle.numbers.specs.Lengths.{good_size}

@@ -5,6 +5,6 @@ use Rattle.document.proofs.fonts.font_by.Goals as goal
 
 pub returns : goal.returns
 returns c =
-    let front : c.new.result.front.now ≡ take c.args.document.end c.args.bytes.now = search rules in
-    let from : c.new.result.at ≡ min (c.args.document.post + 29) 18446744073709551615 = search rules in
+    let front : c.entries_of.result.front.now ≡ take c.args.document.end c.args.bytes.now = search rules in
+    let from : c.entries_of.result.at ≡ min (c.args.document.post + 29) 18446744073709551615 = search rules in
     rw (front, from) at c.font_from.ensures ∙ font-most c.args.bytes.now _ _ _ _ (search rules)

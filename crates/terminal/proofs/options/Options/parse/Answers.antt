@@ -1,4 +1,4 @@
-use Rattle.std.proofs.Common.{rules, arith, ◌≡◌, length, ◌∙◌}
+use Rattle.std.proofs.Common.{arith, ◌≡◌, length, ◌∙◌}
 use Rattle.std.proofs.lemmas.Result.{err_from_is_err_and}
 use Rattle.terminal.specs.Options.{given_of}
 use Rattle.terminal.proofs.Parsing.{on, failed, parsed_end, parsed_odd}

@@ -1,7 +1,7 @@
 #!/usr/bin/env python3
-"""Works out the file stdout from the listings that vftovp and tftopl make, by the rules of docs/FORMATS.md and docs/SHELVES.md.
+"""Works out the file stdout from the listings that vftovp, tftopl, dvitype and dv2dt make, by the rules of docs/FORMATS.md and docs/SHELVES.md.
 
-EXPECTED.md says how it is called and what is added by hand. Nothing here reads VF or TFM bytes, or calls the program.
+EXPECTED.md says how it is called and what is added by hand. Nothing here reads VF, TFM or DVI bytes, or calls the program.
 """
 import re
 import sys
@@ -139,6 +139,23 @@ def answer(words, listings):
         return marks
 
 
+def paged(words, listings):
+    """What a command line prints of a document: page places and counters by dvitype, the rest by dv2dt."""
+    stem = f"{listings}/{words[1][:-4]}"
+    lines = [line.split() for line in open(f"{stem}.dt")]
+    pre = next(line for line in lines if line[0] == "pre")
+    post = next(n for n, line in enumerate(lines) if line[0] == "post")
+    pages = re.findall(r"(\d+): beginning of page (\S+)", open(f"{stem}.type").read())
+    told = [f"pages {lines[post][8]} mag {pre[4]}"]
+    for n, (place, counters) in enumerate(pages, 1):
+        told.append(f"page {n} {place} {counters.replace('.', ' ')}")
+    for line in lines[post + 1 :]:
+        if line[0].startswith("fd"):
+            number, checksum, size, design, area, name = line[1], line[2], line[3], line[4], line[7], line[8]
+            told.append(f"font {number} {size} {design} {int(checksum, 8)} {area[1:-1]}{name[1:-1]}")
+    return told + ["status 0"]
+
+
 def main(commands, listings, by_hand):
     told = {}
     for block in open(by_hand).read().split("\n\n"):
@@ -148,7 +165,8 @@ def main(commands, listings, by_hand):
         print(f"$ dviflat {line}")
         lines = told.get(line)
         if lines is None:
-            lines = answer(line.split(" "), listings)
+            words = line.split(" ")
+            lines = paged(words, listings) if words[0] == "pages" else answer(words, listings)
         elif lines[0] == "...":
             lines = answer(line.split(" "), listings) + lines[1:]
         print("\n".join(lines) + "\n")
