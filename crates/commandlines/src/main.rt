@@ -1,5 +1,5 @@
-// The program's commands over real fonts and documents. Each line of the file `commands` is a command line, its words apart by single
-// spaces; it is printed, then what the program prints for it, a failure included, and the status.
+// The program's commands over real fonts and documents. Each line of the file `commands` is a command line, its words
+// apart by single spaces; it is printed, then what the program prints for it, a failure included, and the status.
 #![tactic(auto)]
 
 use std::fs;
