@@ -23,7 +23,8 @@ impl Same {
 
     pub(crate) fn words(self) -> &'static str {
         match self {
-            Same::Yes => "checked: the same marks and counts over the faces alone, the same bytes when copied again",
+            Same::Yes =>
+                "checked: the same marks and counts over the faces alone, the same bytes when copied again",
             Same::OtherMarks => "checked: a page of the file has other marks or counts",
             Same::OtherBytes => "checked: the file copied again is another",
         }

@@ -62,9 +62,10 @@ impl Copier {
                 return Ok(Err(Stopped { page, refusal }));
             }
         }
-        Ok(run
-            .close(self.out.as_mut_slice())
-            .map_err(|refusal| Stopped { page: 0, refusal }))
+        Ok(
+            run.close(self.out.as_mut_slice())
+                .map_err(|refusal| Stopped { page: 0, refusal }),
+        )
     }
 
     // A page, with as much room for its marks and for the output as it turns out to need.
