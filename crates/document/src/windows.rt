@@ -13,6 +13,9 @@ use std::mem;
 // How many numbers a window has.
 const WINDOW: usize = 4_194_304;
 
+// And the first, which is all that most documents need: clearing its table costs next to nothing.
+const FIRST_WINDOW: usize = 4_096;
+
 // The contracts here give the three parts of a walk to definitions that are about any bytes and places.
 
 // Where the first command stands that is neither a 138 nor a fair definition of a number not used before.
@@ -24,8 +27,13 @@ pub(crate) fn lawful_to(entries: Entries<'_>) -> usize
     lawful.to = fair_to(entries);
     let mut lo = 0;
     while let Some(n) = least(lawful, lo) {
-        lawful.to = window::<WINDOW>(lawful, n);
-        lo = n + WINDOW;
+        if lo == 0 {
+            lawful.to = window::<FIRST_WINDOW>(lawful, n);
+            lo = n + FIRST_WINDOW;
+        } else {
+            lawful.to = window::<WINDOW>(lawful, n);
+            lo = n + WINDOW;
+        }
     }
     lawful.to
 }
