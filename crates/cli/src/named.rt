@@ -7,11 +7,8 @@ pub enum Command {
     Faces,
     Character,
     Pages,
-<<<<<<< HEAD:crates/cli/src/named.rt
     Marks,
     Flatten,
-=======
->>>>>>> 684ca2714297b39319856a3d94486b3d4ff73c40:crates/cli/src/commands.rt
     Replay,
     Help,
 }
@@ -24,11 +21,8 @@ impl Command {
             "faces" => Some(Command::Faces),
             "character" => Some(Command::Character),
             "pages" => Some(Command::Pages),
-<<<<<<< HEAD:crates/cli/src/named.rt
             "marks" => Some(Command::Marks),
             "flatten" => Some(Command::Flatten),
-=======
->>>>>>> 684ca2714297b39319856a3d94486b3d4ff73c40:crates/cli/src/commands.rt
             "replay" => Some(Command::Replay),
             "help" | "--help" => Some(Command::Help),
             _ => None,
