@@ -9,6 +9,6 @@ mod pages;
 mod points;
 
 pub use characters::show_character;
-pub use faces::show_faces;
 pub use documents::legal_document;
+pub use faces::show_faces;
 pub use pages::{show_counts, show_pages};
