@@ -5,3 +5,5 @@ pub mod Found
 pub mod Notes
 pub mod Joins
 pub mod Least
+pub mod Tables
+pub mod Gathered

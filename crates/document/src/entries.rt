@@ -62,7 +62,7 @@ impl<'a> Iterator for Entries<'a> {
 }
 
 // In how many bytes the font number stands, if the command is a definition.
-fn width_at(front: &[u8], at: usize) -> usize
+pub(crate) fn width_at(front: &[u8], at: usize) -> usize
     ensures { result ≡ wide front.now at }
 {
     (number(front, at, 1) as usize).saturating_sub(BEFORE_DEFINITIONS)

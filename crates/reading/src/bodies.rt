@@ -2,16 +2,14 @@
 ghost use Rattle.std.specs.Prelude.{◌≡◌};
 ghost use Rattle.reading.specs.Reading.{chosen_in, page_acts};
 
-use commands::Definition;
-use document::{Document, font_by};
+use document::FontTable;
 use machine::{Body, Chosen};
 use numbers::is_size;
 use shelf::{Cause, Link, Shelf};
 
 #[derive(Clone, Copy)]
 pub(crate) struct PageBody<'a> {
-    pub(crate) bytes: &'a [u8],
-    pub(crate) stated: Document,
+    pub(crate) fonts: FontTable<'a>,
     pub(crate) page: u16,
 }
 
@@ -19,7 +17,7 @@ pub(crate) struct PageBody<'a> {
 const PAGE: u16 = u16::MAX;
 
 impl<'a> Body for PageBody<'a> {
-    ghost acts = { λ s. page_acts s.bytes.now s.stated s.page };
+    ghost acts = { λ s. page_acts s.fonts.bytes.now s.fonts.document s.page };
 
     // Lengths stand for themselves.
     fn measure(&self, b: i64) -> Option<i64> {
@@ -27,7 +25,7 @@ impl<'a> Body for PageBody<'a> {
     }
 
     fn choose<S: Shelf>(&self, below: &S, number: u32) -> Result<Chosen, Cause> {
-        let definition = font_by(self.bytes, self.stated, number).ok_or(Cause::NoFont)?;
+        let definition = self.fonts.font(number).ok_or(Cause::NoFont)?;
         let font = below.find(definition.name).ok_or(Cause::NoName)?;
         if is_size(definition.size) {
             Ok(Chosen {

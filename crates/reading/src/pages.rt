@@ -5,10 +5,20 @@ ghost use Rattle.machine.specs.Views.{counted};
 ghost use Rattle.reading.specs.Reading.{Served, page_outcome, page_reading, reading};
 
 use crate::bodies::PageBody;
-use document::{Document, legal, page_place};
+use document::{Document, FontTable, legal, page_place};
 use machine::{Frames, Level, Machine, Registers};
-use numbers::part;
 use shelf::{Link, Mark, Refusal, Shelf};
+
+// A postamble of so many bytes has some 50 definitions at most; going over them costs less than a table.
+const FEW: usize = 1_024;
+
+// One of so many bytes has no more definitions than a small table has room for, each of them 17 bytes or more.
+const SOME: usize = 17 * SMALL;
+
+const SMALL: usize = 1_024;
+
+// A document has no more definitions than this.
+const LARGE: usize = 1_048_576;
 
 // The marks of a document's page, at the front of the list; answers how many there are.
 pub fn read<S: Shelf>(
@@ -36,12 +46,33 @@ pub fn read_page<S: Shelf>(
     ensures { Served (page_reading (S.means shelf.now) document.now stated page) chain.old chain.new marks.old marks.new (counted result) }
 {
     let place = page_place(document, stated, page).ok_or(Refusal::NoPage)?;
-    let body = PageBody {
-        bytes: document,
-        stated,
-        page: page as u16,
-    };
-    run_page(&body, place, shelf, chain, marks)
+    let page = page as u16;
+    match stated.end.saturating_sub(stated.post) {
+        0..=FEW => {
+            let fonts = FontTable::few(document, stated);
+            run_page(&PageBody { fonts, page }, place, shelf, chain, marks)
+        }
+        0..=SOME => run_sorted::<SMALL, S>(document, stated, page, place, shelf, chain, marks),
+        _ => run_sorted::<LARGE, S>(document, stated, page, place, shelf, chain, marks),
+    }
+}
+
+// A page whose fonts are found in a table of room for N. A fixed table, since calls of the library allocate nothing.
+fn run_sorted<const N: usize, S: Shelf>(
+    document: &[u8],
+    stated: Document,
+    page: u16,
+    place: usize,
+    shelf: &S,
+    chain: &mut [Link],
+    marks: &mut [Mark],
+) -> Result<usize, Refusal>
+    requires { (place < 2 ^ 32) × (N < 2 ^ 32) }
+    ensures { Answered (page_outcome (S.means shelf.now) document.now stated page place) chain.old chain.new marks.old marks.new (counted result) }
+{
+    let mut table = [0; N];
+    let fonts = FontTable::many(document, stated, &mut table);
+    run_page(&PageBody { fonts, page }, place, shelf, chain, marks)
 }
 
 #[tactic(auto, unfolding(crate::specs::Reading::page_outcome))]
@@ -54,7 +85,7 @@ fn run_page<S: Shelf>(
     marks: &mut [Mark],
 ) -> Result<usize, Refusal>
     requires { place < 2 ^ 32 }
-    ensures { Answered (page_outcome (S.means shelf.now) body.now.bytes.now body.now.stated body.now.page place) chain.old chain.new marks.old marks.new (counted result) }
+    ensures { Answered (page_outcome (S.means shelf.now) body.now.fonts.bytes.now body.now.fonts.document body.now.page place) chain.old chain.new marks.old marks.new (counted result) }
 {
     let mut m = Machine {
         at: Registers::default(),
@@ -64,7 +95,7 @@ fn run_page<S: Shelf>(
     let level = Level {
         below: shelf,
         body,
-        bytes: part(body.bytes, 0, body.stated.post),
+        bytes: body.fonts.before_postamble(),
     };
     level.run(place + 45, &mut m, chain, marks)
 }
