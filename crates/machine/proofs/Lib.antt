@@ -1,4 +1,3 @@
-pub mod Saved
 pub mod Onward
 pub mod Turning
 pub mod Looping

@@ -14,7 +14,7 @@ impl Frames {
         ensures { frames_of result ≡ [] }
     {
         Frames {
-            saved: [Registers::default(); 64],
+            saved: None,
             depth: 0,
         }
     }
@@ -27,7 +27,10 @@ impl Frames {
         if self.depth >= MAX_FRAMES {
             return Err(Cause::Frames);
         }
-        self.saved[self.depth] = r;
+        match &mut self.saved {
+            Some(saved) => saved[self.depth] = r,
+            None => self.saved = Some([r; MAX_FRAMES]),
+        }
         self.depth += 1;
         Ok(())
     }
@@ -36,11 +39,12 @@ impl Frames {
     pub fn pop(&mut self) -> Option<Registers>
         ensures { (result, frames_of self.new) ≡ popped (frames_of self.old) }
     {
+        let saved = self.saved.as_ref()?;
         if self.depth == 0 {
             return None;
         }
         self.depth -= 1;
-        Some(self.saved[self.depth])
+        Some(saved[self.depth])
     }
 
     pub fn is_empty(&self) -> bool
