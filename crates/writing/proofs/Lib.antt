@@ -4,5 +4,6 @@ pub mod Overwrites
 pub mod PageBytes
 pub mod Passed
 pub mod Scratch
+pub mod Shapes
 pub mod ShortNames
 pub mod Written

@@ -21,3 +21,11 @@ over_more at next a b out e h =
 
 pub over_none : (at : ℕ) (out : List ℕ) → overwritten at [] out ≡ out
 over_none at out = ap (λ n. take at out ++ drop n out) (add-zero at) ∙ take-append-drop at out
+
+-- the same by what each write leaves
+pub over_two : (at next : ℕ) (a b was one two : List ℕ) → one ≡ overwritten at a was → next ≡ at + length a → two ≡ overwritten next b one → at + length (a ++ b) ≤ length was → two ≡ overwritten at (a ++ b) was
+over_two at next a b was one two d e f h = f ∙ ap (overwritten next b) d ∙ over_more at next a b was e (omega (arith, h, length-append a b))
+
+-- and there is room for the second where there is for both
+pub over_room : (at next : ℕ) (a b was one : List ℕ) → one ≡ overwritten at a was → next ≡ at + length a → at + length (a ++ b) ≤ length was → next + length b ≤ length one
+over_room at next a b was one d e h = omega (arith, h, length-append a b, ap length d, length_over at a was (omega (arith, h, length-append a b)))

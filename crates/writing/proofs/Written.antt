@@ -38,17 +38,16 @@ module _ (F : ℕ → Facts) (first : Pen) (ms : List Mark) (was : List ℕ) (ro
   rest_room : (i : ℕ) (pen : Pen) (out : List ℕ) → Written F first ms i pen was out → pen.at + length (marks_bytes F pen (drop i ms)) ≤ length out
   rest_room i pen out w = omega (arith, length-marks F pen (drop i ms), ap (λ (p : Pen). p.at) w.onward.rest, w.long, room)
 
-  pub mark_room : (i : ℕ) (pen : Pen) (out bytes made : List ℕ) (d : Mark) → i < length ms → bytes ≡ made → made ≡ mark_bytes F pen (get_or ms i d) → Written F first ms i pen was out → pen.at + length bytes ≤ length out
-  mark_room i pen out bytes made d lt k e w =
+  pub mark_room : (i : ℕ) (pen : Pen) (out : List ℕ) (d : Mark) → i < length ms → Written F first ms i pen was out → pen.at + length (mark_bytes F pen (get_or ms i d)) ≤ length out
+  mark_room i pen out d lt w =
       let m : Mark = get_or ms i d in
-      omega (arith, rest_room i pen out w, ap length (bytes_more F pen ms i d lt), length-append (mark_bytes F pen m) (marks_bytes F (pen_after F pen m) (drop (i + 1) ms)), ap length (k ∙ e))
+      omega (arith, rest_room i pen out w, ap length (bytes_more F pen ms i d lt), length-append (mark_bytes F pen m) (marks_bytes F (pen_after F pen m) (drop (i + 1) ms)))
 
-  pub written_more : (i : ℕ) (pen next : Pen) (out new bytes made : List ℕ) (d : Mark) → ((k : ℕ) → length (F k).name < 64) → i < length ms → bytes ≡ made → made ≡ mark_bytes F pen (get_or ms i d) → next ≡ pen_after F pen (get_or ms i d) → new ≡ overwritten pen.at bytes out → Written F first ms i pen was out → Written F first ms (i + 1) next was new
-  written_more i pen next out new bytes made d names lt k b e o w =
+  pub written_more : (i : ℕ) (pen next : Pen) (out new : List ℕ) (d : Mark) → ((k : ℕ) → length (F k).name < 64) → i < length ms → next ≡ pen_after F pen (get_or ms i d) → new ≡ overwritten pen.at (mark_bytes F pen (get_or ms i d)) out → Written F first ms i pen was out → Written F first ms (i + 1) next was new
+  written_more i pen next out new d names lt e p w =
       let m : Mark = get_or ms i d in
       let after : Pen = pen_after F pen m in
       let rest : List ℕ = marks_bytes F after (drop (i + 1) ms) in
-      let p : new ≡ overwritten pen.at (mark_bytes F pen m) out = o ∙ ap (λ x. overwritten pen.at x out) (k ∙ b) in
       let all : marks_bytes F pen (drop i ms) ≡ mark_bytes F pen m ++ rest = bytes_more F pen ms i d lt in
       let fits : after.at + length rest ≤ length out = omega (arith, rest_room i pen out w, ap length all, length-append (mark_bytes F pen m) rest, at_after F pen m) in
       record {

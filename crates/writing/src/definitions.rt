@@ -1,7 +1,7 @@
-// The definitions of pairs, and their selection.
-ghost use Rattle.std.specs.Prelude.{◌≡◌, ◌+◌, ◌^◌, ◌<◌, ◌≤◌, ◌++◌, length};
+// The definitions of pairs.
+ghost use Rattle.std.specs.Prelude.{◌≡◌, ◌<◌, ◌≤◌, length};
 ghost use Rattle.shelf.specs.Telling.{facts_in};
-ghost use Rattle.copies.specs.Marks.{define_bytes, faces_of, selecting};
+ghost use Rattle.copies.specs.Marks.{define_bytes, faces_of};
 ghost use Rattle.writing.specs.Pieces.{made};
 
 use crate::pieces::Piece;
@@ -36,19 +36,4 @@ pub(crate) fn definition(number: usize, size: u32, face: Face<'_>) -> Piece
         .byte(0)
         .number(1, face.name.len() as u32)
         .all(face.name)
-}
-
-impl Piece {
-    // 171 to 234, where the number is not the last selected.
-    pub(crate) fn selection(self, last: Option<usize>, number: usize) -> Piece
-        requires number { number < 64 }
-        requires room { length (made self) < 92 }
-        ensures made { made result ≡ made self ++ selecting last number }
-        ensures length { length (made result) ≤ length (made self) + 1 }
-    {
-        if last == Some(number) {
-            return self;
-        }
-        self.byte(171 + number as u8)
-    }
 }

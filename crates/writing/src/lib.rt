@@ -11,6 +11,7 @@ mod pages;
 mod passing;
 mod pens;
 mod pieces;
+mod selections;
 mod standings;
 
 pub use closings::{append_closing, closed_length};

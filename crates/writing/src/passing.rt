@@ -6,7 +6,6 @@ ghost use Rattle.copies.specs.Writing.{overwritten};
 ghost use Rattle.pairs.specs.Tables.{pairs_of};
 ghost use Rattle.writing.specs.Pens.{pen_of};
 
-use crate::outputs::write_over;
 use crate::pens::Pen;
 use pairs::PairTable;
 use shelf::{Mark, Refusal, Shelf};
@@ -26,8 +25,7 @@ pub(crate) fn pass_over<S: Shelf>(
     ensures kept { take (length (pairs_of table.old)) (pairs_of table.new) ≡ pairs_of table.old }
 {
     for mark in marks {
-        let (next, _) = pen.put(shelf, table, *mark)?;
-        pen = next;
+        pen = pen.pass(shelf, table, *mark)?;
     }
     Ok(pen)
 }
@@ -47,9 +45,7 @@ pub(crate) fn write_marks<S: Shelf>(
     ensures written { OnOk result (out.new ≡ overwritten pen.at (marks_bytes (faces_of (S.means shelf.now)) (pen_of pen (pairs_of table.old)) marks.now) out.old) }
 {
     for mark in marks {
-        let (next, piece) = pen.put(shelf, table, *mark)?;
-        write_over(out, pen.at, piece.as_slice());
-        pen = next;
+        pen = pen.write(shelf, table, *mark, out)?;
     }
     Ok(pen)
 }

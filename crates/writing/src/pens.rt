@@ -1,14 +1,14 @@
-// The pen of a page: where its writer stands, and the bytes of each mark from there.
-ghost use Rattle.std.specs.Prelude.{◌≡◌, ◌+◌, ◌^◌, ◌<◌, ◌≤◌, ◌++◌, length, pos, ◌-ℤ◌, unsigned_abs, IfOk, IfErr, OnErr};
+// The pen of a page: where its writer stands, and how a mark moves it.
+ghost use Rattle.std.specs.Prelude.{◌≡◌, ◌+◌, ◌^◌, ◌<◌, ◌≤◌, ◌++◌, length, pos, ◌-ℤ◌, unsigned_abs, IfOk, IfErr, OnOk};
 ghost use Rattle.shelf.specs.declared.refusals.Refusal.TheVariants.{PairsFull};
-ghost use Rattle.copies.specs.Pairs.{pair_by, numbered, entered};
-ghost use Rattle.copies.specs.Marks.{faces_of, mark_h, mark_v, move_bytes, font_bytes, mark_bytes, pen_after};
+ghost use Rattle.copies.specs.Marks.{faces_of, mark_h, mark_v, move_bytes, mark_bytes, pen_after};
+ghost use Rattle.copies.specs.Writing.{overwritten};
 ghost use Rattle.pairs.specs.Tables.{pairs_of};
-ghost use Rattle.writing.specs.Pieces.{made};
 ghost use Rattle.writing.specs.Pens.{pen_of};
 
-use crate::definitions::{definition, told};
-use crate::pieces::Piece;
+use crate::moves::{move_length, write_move};
+use crate::outputs::write_over;
+use crate::selections::{select, write_rule};
 use crate::standings::Standing;
 use copies::Pair;
 use pairs::PairTable;
@@ -44,56 +44,75 @@ impl Pen {
         }
     }
 
-    // The move to a mark.
-    fn moved_to(self, mark: Mark) -> Piece
-        ensures made { made result ≡ move_bytes 142 (mark_h mark -ℤ self.h) ++ move_bytes 156 (mark_v mark -ℤ self.v) }
-        ensures length { length (made result) ≤ 10 }
-    {
-        let (h, v) = position(mark);
-        Piece::new()
-            .moved(RIGHT, distance(self.h, h))
-            .moved(DOWN, distance(self.v, v))
-    }
-
-    // The bytes that select a pair, behind those of a piece, and the pair's number; a new one is entered, and defined first.
-    fn with_font<S: Shelf>(
-        self,
-        piece: Piece,
-        shelf: &S,
-        table: &mut PairTable,
-        pair: Pair,
-    ) -> Result<(Piece, usize), Refusal>
-        requires { length (made piece) ≤ 10 }
-        ensures done { IfOk result (λ r. (made r.0 ≡ made piece ++ font_bytes (faces_of (S.means shelf.now)) (pen_of self (pairs_of table.old)) (pair_by (pairs_of table.old) pair.face pair.size) pair.face pair.size)
-            × (r.1 ≡ numbered (pairs_of table.old) (pair_by (pairs_of table.old) pair.face pair.size))
-            × (pairs_of table.new ≡ entered (pairs_of table.old) (pair_by (pairs_of table.old) pair.face pair.size) pair)
-            × (length (made r.0) ≤ 90)) }
-        ensures full { IfErr result (λ e. (e ≡ PairsFull) × (64 < length (entered (pairs_of table.old) (pair_by (pairs_of table.old) pair.face pair.size) pair)) × (pairs_of table.new ≡ pairs_of table.old)) }
-    {
-        if let Some(n) = table.find(pair.face, pair.size) {
-            return Ok((piece.selection(self.last, n), n));
-        }
-        let n = table.len();
-        table.enter(pair)?;
-        let defined = definition(n, pair.size, told(shelf, pair.face));
-        let piece = piece.all(defined.as_slice()).selection(self.last, n);
-        Ok((piece, n))
-    }
-
-    // The bytes of a mark, and the pen behind it; a new pair is entered with the place of its definition.
+    // The pen behind a mark that is not written; a new pair is entered with the place of its definition.
     #[tactic(auto, unfolding(copies::specs::Marks::mark_bytes, copies::specs::Marks::pen_after))]
-    pub(crate) fn put<S: Shelf>(
+    pub(crate) fn pass<S: Shelf>(
         self,
         shelf: &S,
         table: &mut PairTable,
         mark: Mark,
-    ) -> Result<(Pen, Piece), Refusal>
+    ) -> Result<Pen, Refusal>
         requires { self.at + 92 < 2 ^ 64 }
-        ensures done { IfOk result (λ r. (made r.1 ≡ mark_bytes (faces_of (S.means shelf.now)) (pen_of self (pairs_of table.old)) mark)
-            × (pen_of r.0 (pairs_of table.new) ≡ pen_after (faces_of (S.means shelf.now)) (pen_of self (pairs_of table.old)) mark)) }
+        ensures done { IfOk result (λ p. pen_of p (pairs_of table.new) ≡ pen_after (faces_of (S.means shelf.now)) (pen_of self (pairs_of table.old)) mark) }
         ensures full { IfErr result (λ e. (e ≡ PairsFull) × (64 < length (pen_after (faces_of (S.means shelf.now)) (pen_of self (pairs_of table.old)) mark).pairs) × (pairs_of table.new ≡ pairs_of table.old)) }
     {
-        let piece = self.moved_to(mark);
+        let (h, v) = position(mark);
+        let at = self.at + self.moves_length(mark);
+        match mark {
+            Mark::Glyph {
+                face,
+                size,
+                code: _,
+                h: _,
+                v: _,
+            } => {
+                let font = select(
+                    shelf,
+                    table,
+                    Pair {
+                        face,
+                        size,
+                        place: at,
+                    },
+                )?;
+                Ok(Pen {
+                    h,
+                    v,
+                    last: Some(font.number),
+                    at: at + font.length(self.last) + 2,
+                })
+            }
+            Mark::Rule {
+                height: _,
+                width: _,
+                h: _,
+                v: _,
+            } => Ok(Pen {
+                h,
+                v,
+                last: self.last,
+                at: at + 9,
+            }),
+        }
+    }
+
+    // The same with the bytes of the mark written.
+    #[tactic(auto, unfolding(copies::specs::Marks::mark_bytes, copies::specs::Marks::pen_after))]
+    pub(crate) fn write<S: Shelf>(
+        self,
+        shelf: &S,
+        table: &mut PairTable,
+        mark: Mark,
+        out: &mut [u8],
+    ) -> Result<Pen, Refusal>
+        requires far { self.at + 92 < 2 ^ 64 }
+        requires room { self.at + length (mark_bytes (faces_of (S.means shelf.now)) (pen_of self (pairs_of table.old)) mark) ≤ length out.old }
+        ensures done { IfOk result (λ p. pen_of p (pairs_of table.new) ≡ pen_after (faces_of (S.means shelf.now)) (pen_of self (pairs_of table.old)) mark) }
+        ensures full { IfErr result (λ e. (e ≡ PairsFull) × (64 < length (pen_after (faces_of (S.means shelf.now)) (pen_of self (pairs_of table.old)) mark).pairs) × (pairs_of table.new ≡ pairs_of table.old)) }
+        ensures written { OnOk result (out.new ≡ overwritten self.at (mark_bytes (faces_of (S.means shelf.now)) (pen_of self (pairs_of table.old)) mark) out.old) }
+    {
+        let (h, v) = position(mark);
+        let at = self.write_moves(mark, out);
         match mark {
             Mark::Glyph {
                 face,
@@ -102,10 +121,16 @@ impl Pen {
                 h: _,
                 v: _,
             } => {
-                let place = self.at + piece.as_slice().len();
-                let pair = Pair { face, size, place };
-                let (piece, n) = self.with_font(piece, shelf, table, pair)?;
-                Ok(self.behind(mark, Some(n), piece.byte(133).byte(code)))
+                let place = at;
+                let font = select(shelf, table, Pair { face, size, place })?;
+                let at = font.write(self.last, at, out);
+                write_over(out, at, &[133, code]);
+                Ok(Pen {
+                    h,
+                    v,
+                    last: Some(font.number),
+                    at: at + 2,
+                })
             }
             Mark::Rule {
                 height,
@@ -113,21 +138,49 @@ impl Pen {
                 h: _,
                 v: _,
             } => {
-                let piece = piece.byte(137).number(4, height).number(4, width);
-                Ok(self.behind(mark, self.last, piece))
+                write_rule(out, at, height, width);
+                Ok(Pen {
+                    h,
+                    v,
+                    at: at + 9,
+                    ..self
+                })
             }
         }
     }
 
-    // The pen behind the bytes of a mark.
-    fn behind(self, mark: Mark, last: Option<usize>, piece: Piece) -> (Pen, Piece)
-        requires { self.at + 92 < 2 ^ 64 }
-        ensures pen { result.0 ≡ record { h = mark_h mark; v = mark_v mark; last = last; at = self.at + length (made piece) } }
-        ensures piece { result.1 ≡ piece }
+    // How many bytes the move to a mark takes.
+    fn moves_length(self, mark: Mark) -> usize
+        ensures value { result ≡ length (move_bytes 142 (mark_h mark -ℤ self.h) ++ move_bytes 156 (mark_v mark -ℤ self.v)) }
+        ensures most { result ≤ 10 }
     {
-        let (h, v) = position(mark);
-        let at = self.at + piece.as_slice().len();
-        (Pen { h, v, last, at }, piece)
+        move_length(RIGHT, self.across(mark)) + move_length(DOWN, self.down(mark))
+    }
+
+    // Writes the move to a mark, and answers the place behind.
+    fn write_moves(self, mark: Mark, out: &mut [u8]) -> usize
+        requires { self.at + length (move_bytes 142 (mark_h mark -ℤ self.h) ++ move_bytes 156 (mark_v mark -ℤ self.v)) ≤ length out.old }
+        ensures after { result ≡ self.at + length (move_bytes 142 (mark_h mark -ℤ self.h) ++ move_bytes 156 (mark_v mark -ℤ self.v)) }
+        ensures written { out.new ≡ overwritten self.at (move_bytes 142 (mark_h mark -ℤ self.h) ++ move_bytes 156 (mark_v mark -ℤ self.v)) out.old }
+    {
+        let at = write_move(out, self.at, RIGHT, self.across(mark));
+        write_move(out, at, DOWN, self.down(mark))
+    }
+
+    // How far a mark lies to the right.
+    fn across(self, mark: Mark) -> i64
+        ensures value { result ≡ mark_h mark -ℤ self.h }
+        ensures bound { unsigned_abs result < 2 ^ 32 }
+    {
+        distance(self.h, position(mark).0)
+    }
+
+    // How far it lies further down.
+    fn down(self, mark: Mark) -> i64
+        ensures value { result ≡ mark_v mark -ℤ self.v }
+        ensures bound { unsigned_abs result < 2 ^ 32 }
+    {
+        distance(self.v, position(mark).1)
     }
 }
 
