@@ -7,3 +7,4 @@ pub mod Joins
 pub mod Least
 pub mod Tables
 pub mod Gathered
+pub mod Placing

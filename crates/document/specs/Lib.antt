@@ -1,6 +1,7 @@
 pub mod Bytes
 pub mod Pages
 pub mod Fonts
+pub mod Places
 pub mod Tables
 pub mod Windows
 pub mod Entries

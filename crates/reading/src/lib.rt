@@ -5,5 +5,5 @@ mod bodies;
 mod counts;
 mod pages;
 
-pub use counts::counts_of;
-pub use pages::{read, read_page};
+pub use counts::{counts_judged, counts_of};
+pub use pages::{read, read_judged, read_page};

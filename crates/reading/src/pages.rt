@@ -5,7 +5,7 @@ ghost use Rattle.machine.specs.Views.{counted};
 ghost use Rattle.reading.specs.Reading.{Served, page_outcome, page_reading, reading};
 
 use crate::bodies::PageBody;
-use document::{Document, FontTable, legal, page_place};
+use document::{Document, FontTable, Judged, legal, page_place};
 use machine::{Frames, Level, Machine, Registers};
 use shelf::{Link, Mark, Refusal, Shelf};
 
@@ -46,7 +46,44 @@ pub fn read_page<S: Shelf>(
     ensures { Served (page_reading (S.means shelf.now) document.now stated page) chain.old chain.new marks.old marks.new (counted result) }
 {
     let place = page_place(document, stated, page).ok_or(Refusal::NoPage)?;
-    let page = page as u16;
+    read_at(document, stated, page as u16, place, shelf, chain, marks)
+}
+
+// The same of one that passed the checks.
+pub fn read_judged<S: Shelf>(
+    document: &Judged<'_>,
+    page: usize,
+    shelf: &S,
+    chain: &mut [Link],
+    marks: &mut [Mark],
+) -> Result<usize, Refusal>
+    ensures { Served (page_reading (S.means shelf.now) document.now.bytes.now document.now.stated page) chain.old chain.new marks.old marks.new (counted result) }
+{
+    let place = document.place(page).ok_or(Refusal::NoPage)?;
+    read_at(
+        document.bytes(),
+        document.stated(),
+        page as u16,
+        place,
+        shelf,
+        chain,
+        marks,
+    )
+}
+
+// The page whose bop stands at a place.
+fn read_at<S: Shelf>(
+    document: &[u8],
+    stated: Document,
+    page: u16,
+    place: usize,
+    shelf: &S,
+    chain: &mut [Link],
+    marks: &mut [Mark],
+) -> Result<usize, Refusal>
+    requires { place < 2 ^ 32 }
+    ensures { Answered (page_outcome (S.means shelf.now) document.now stated page place) chain.old chain.new marks.old marks.new (counted result) }
+{
     match stated.end.saturating_sub(stated.post) {
         0..=FEW => {
             let fonts = FontTable::few(document, stated);
