@@ -8,8 +8,8 @@ ghost use Rattle.runs.specs.Views.{view_of, said, lengthened};
 
 use crate::pointers::pointer_back;
 use crate::runs::{Run, State};
-use document::legal;
-use reading::{counts_of, read_page};
+use document::Judged;
+use reading::{counts_judged, read_judged};
 use shelf::{Link, Mark, Refusal, Shelf};
 use writing::{Standing, append_closing, append_page};
 
@@ -31,12 +31,34 @@ impl<'a, S: Shelf> Run<'a, S> {
             State::Closed => Err(Refusal::RunClosed),
             State::Open(standing) => {
                 check_output(standing, out)?;
-                let stated = legal(document)?;
-                if stated.mag != self.opening.mag {
+                let judged = Judged::of(document)?;
+                self.copy_judged(&judged, page, chain, marks, out)
+            }
+        }
+    }
+
+    // The same of a document that passed the checks before.
+    pub fn copy_judged(
+        &mut self,
+        document: &Judged<'_>,
+        page: usize,
+        chain: &mut [Link],
+        marks: &mut [Mark],
+        out: &mut [u8],
+    ) -> Result<(), Refusal>
+        ensures step { seen (view_of S.means self.new) out.new (said result) ≡ stepped (view_of S.means self.old) (copy (record { document = document.now.bytes.now; page = page }) (length marks.old)) out.old }
+        ensures marks { marks.new ≡ marked (read_at (view_of S.means self.old) (record { document = document.now.bytes.now; page = page }) (length out.old)) marks.old }
+        ensures chain { chain.new ≡ chained (read_at (view_of S.means self.old) (record { document = document.now.bytes.now; page = page }) (length out.old)) (length marks.old) chain.old }
+    {
+        match self.state {
+            State::Closed => Err(Refusal::RunClosed),
+            State::Open(standing) => {
+                check_output(standing, out)?;
+                if document.stated().mag != self.opening.mag {
                     return Err(Refusal::OtherMag);
                 }
-                let n = read_page(document, stated, page, self.shelf, chain, marks)?;
-                let counts = counts_of(document, stated, page).ok_or(Refusal::NoPage)?;
+                let n = read_judged(document, page, self.shelf, chain, marks)?;
+                let counts = counts_judged(document, page).ok_or(Refusal::NoPage)?;
                 let standing = append_page(
                     self.shelf,
                     &mut self.pairs,
