@@ -2,3 +2,4 @@ pub mod Onward
 pub mod Turning
 pub mod Looping
 pub mod Good
+pub mod OneCharacter

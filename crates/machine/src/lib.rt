@@ -9,6 +9,7 @@ mod moves;
 mod quiet;
 mod registers;
 mod running;
+mod single;
 mod state;
 mod stepping;
 
