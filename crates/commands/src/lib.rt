@@ -8,4 +8,4 @@ mod reading;
 
 pub use definitions::definition_at;
 pub use parts::{Command, Definition};
-pub use reading::command_at;
+pub use reading::{command_at, single_char};

@@ -1,7 +1,7 @@
 // The command at a place, and how many bytes it takes.
-ghost use Rattle.std.specs.Prelude.{◌≡◌, ◌+◌, ◌<◌, ◌≤◌, length, IfSome, OnSome};
+ghost use Rattle.std.specs.Prelude.{◌≡◌, ◌+◌, ◌<◌, ◌≤◌, length, pos, Some, IfSome, OnSome};
 ghost use Rattle.numbers.specs.Bytes.{signed_at};
-ghost use Rattle.commands.specs.Commands.{code_at, sides_at, read_as, command_at};
+ghost use Rattle.commands.specs.Commands.{set, code_at, sides_at, read_as, command_at};
 ghost use Rattle.commands.specs.Shapes.{shape_of};
 
 use crate::definitions::definition_at;
@@ -18,6 +18,18 @@ pub fn command_at(bytes: &[u8], at: usize) -> Option<(Command<'_>, usize)>
 {
     let (kind, width) = kind_of(*bytes.get(at)?);
     command_of(kind, bytes, at, width)
+}
+
+// The code of a character that is all that stands from `at` on, in one byte; none where anything else does.
+#[tactic(auto, unfolding(crate::specs::Commands::command_at))]
+pub fn single_char(bytes: &[u8], at: usize) -> Option<u8>
+    ensures is { IfSome result (λ code. command_at bytes.now at ≡ Some (set (pos code), 1)) }
+    ensures last { OnSome result (at + 1 ≡ length bytes.now) }
+{
+    match bytes.get(at..)? {
+        [code] if *code < 128 => Some(*code),
+        _ => None,
+    }
 }
 
 // The command of a kind, whose parameter has `width` bytes.

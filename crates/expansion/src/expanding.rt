@@ -7,6 +7,7 @@ ghost use Rattle.expansion.specs.Expanding.{packet_run, expanded};
 
 use crate::bodies::PacketBody;
 use crate::selecting::first_font;
+use commands::single_char;
 use machine::{Body, Frames, Level, Machine, Registers};
 use numbers::{part, scale};
 use shelf::{Asked, Cause, Link, Mark, Refusal, Shelf, pass_on};
@@ -52,15 +53,19 @@ fn run_packet<S: Shelf>(
         v: asked.v,
         ..Registers::default()
     };
-    let mut m = Machine {
-        at,
-        font,
-        frames: Frames::new(),
-    };
     let level = Level {
         below,
         body: &body,
         bytes: front(file, packet.start, packet.length),
+    };
+    // Most packets of fonts are one character.
+    if let Some(code) = single_char(level.bytes, packet.start) {
+        return level.run_single(packet.start, code, at, font, chain, marks);
+    }
+    let mut m = Machine {
+        at,
+        font,
+        frames: Frames::new(),
     };
     level.run(packet.start, &mut m, chain, marks)
 }
