@@ -49,6 +49,15 @@ def vf(checksum, below, below_checksum, count, scale):
     return bytes(out)
 
 
+def vf_file(below, packet):
+    """A VF file with one character, of code 65, and this packet."""
+    out = bytearray((247, 202, 0)) + four(0) + four(DESIGN)
+    out += bytes((243, 0)) + four(0) + four(1 << 20) + four(DESIGN) + bytes((0, len(below))) + below
+    out += bytes((242,)) + four(len(packet)) + four(65) + four(0) + packet
+    out += b'\xf8' * (4 - len(out) % 4)
+    return bytes(out)
+
+
 def document(pages, glyphs, names, checksums, widths):
     """The document: `widths` is by how much a character moves on, for the right edge of a line."""
     out = bytearray((247, 2)) + four(NUM) + four(DEN) + four(MAG) + bytes((5,)) + b'bench'

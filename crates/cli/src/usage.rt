@@ -40,9 +40,14 @@ impl fmt::Display for Usage {
         for command in COMMANDS {
             write!(f, "\n{}", command.usage())?;
         }
-        f.write_str("\nWithout --tfm and --rank, flatten and marks find the fonts by kpsewhich.\n")
+        f.write_str(LOOKED_UP)
     }
 }
+
+const LOOKED_UP: &str = "
+Where flatten or marks is given no fonts, the script dviflat looks for those of
+the document by kpsewhich.
+";
 
 const FLATTEN: &str = "  dviflat flatten DOC -o OUT [--pages A-B] [--check]
           [--tfm NAME=FILE.. --rank NAME=FILE,NAME=FILE..]
