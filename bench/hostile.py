@@ -107,6 +107,9 @@ def write(folder, data, files=()):
     for name, content in files:
         with open(os.path.join(folder, name + '.vf'), 'wb') as file:
             file.write(content)
+        # dvicopy wants a TFM file of every font
+        with open(os.path.join(folder, name + '.tfm'), 'wb') as file:
+            file.write(tfm(0, 0))
         words += ['--rank', f'{name}={name}.vf']
     return words
 

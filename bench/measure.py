@@ -2,8 +2,10 @@
 import os
 import re
 import shutil
+import signal
 import subprocess
 import tempfile
+import threading
 import time
 
 HERE = os.path.dirname(os.path.abspath(__file__))
@@ -30,19 +32,28 @@ def environment():
     return dict(os.environ, TFMFONTS='.', VFFONTS='.')
 
 
-def once(command, folder):
+class Stopped(Exception):
+    """The program ended with another status than 0, or was not done in time."""
+
+
+def once(command, folder, limit=None):
     """One run: seconds by the clock, seconds of the processor, peak memory in KiB."""
     with tempfile.NamedTemporaryFile('r') as report:
         # what a process has in memory before it becomes the program counts as its own: the small `time` starts it
         words = [TIME, '-f', '%M', '-o', report.name, *command] if TIME else command
         begun = time.perf_counter()
-        process = subprocess.Popen(words, cwd=folder, env=environment(), stdout=subprocess.DEVNULL, stderr=subprocess.PIPE)
-        said = process.stderr.read()
+        process = subprocess.Popen(words, cwd=folder, env=environment(), stdin=subprocess.DEVNULL, stdout=subprocess.DEVNULL,
+                                   stderr=subprocess.DEVNULL, start_new_session=True)
+        late = threading.Timer(limit or 1e6, os.killpg, (process.pid, signal.SIGKILL))
+        late.start()
         _, status, used = os.wait4(process.pid, 0)
         seconds = time.perf_counter() - begun
+        late.cancel()
         process.returncode = os.waitstatus_to_exitcode(status)
+        if limit and seconds >= limit:
+            raise Stopped(f'over {limit} s')
         if process.returncode != 0:
-            raise SystemExit(f'{" ".join(command[:3])}: status {process.returncode}: {said.decode(errors="replace")}')
+            raise Stopped('refused')
         memory = int(report.read().split()[-1]) if TIME else used.ru_maxrss
     return seconds, used.ru_utime + used.ru_stime, memory
 
