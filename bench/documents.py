@@ -110,6 +110,8 @@ def make(folder, pages=1000, glyphs=1000, fonts=1, ranks=1, packet=1):
     scale = 1
     for rank in range(1, ranks + 1):
         scale *= packet
+        # a width is less than 16 sizes
+        assert width(CODES - 1) * scale < 1 << 24
         here, given = [], []
         for n in range(fonts):
             name, checksum = f'rank{rank}font{n}', 1000 * (rank + 1) + n
