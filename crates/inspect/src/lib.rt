@@ -2,6 +2,7 @@
 #![tactic(auto)]
 
 mod asking;
+mod chains;
 mod characters;
 mod documents;
 mod faces;
@@ -10,6 +11,7 @@ mod locals;
 mod pages;
 mod points;
 
+pub use chains::show_chain;
 pub use characters::show_character;
 pub use documents::legal_document;
 pub use faces::show_faces;
