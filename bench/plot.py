@@ -1,7 +1,7 @@
 """A picture of what programs cost against a number, as SVG: panels side by side, both axes logarithmic."""
 import math
 
-WIDTH, HEIGHT, LEFT, TOP, BETWEEN = 230, 200, 60, 40, 70
+WIDTH, HEIGHT, LEFT, TOP, BETWEEN = 230, 200, 60, 40, 100
 COLOURS = {'dvicopy': '#767676', 'dviflat': '#1f5fbf'}
 
 
