@@ -15,7 +15,10 @@ TIME = shutil.which('time')
 
 
 def build():
-    """Proves and builds the program where that is still to be done."""
+    """Proves and builds the program where that is still to be done; ends where TeX's programs are missing."""
+    for program in ('dvicopy', 'dvitype'):
+        if shutil.which(program) is None:
+            raise SystemExit(f'{program} is not installed')
     subprocess.run([os.path.join(ROOT, 'dviflat'), 'help'], check=True, stdout=subprocess.DEVNULL)
 
 
