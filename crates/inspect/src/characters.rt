@@ -1,5 +1,6 @@
 // `character`: shows what a character comes to: its marks and its width, or why it is refused.
 use crate::asking::{Answer, ask};
+use crate::chains::show_chain;
 use answers::{Told, meaning};
 use shelf::{Asked, Shelf};
 use stacks::stack_of;
@@ -34,11 +35,11 @@ pub fn show_character(rt: &HostRuntime, words: &[String]) -> Result<Ended, Failu
         h,
         v,
     };
-    show(rt, &ask(&stack, asked, heap)?)
+    show(rt, &options, &ask(&stack, asked, heap)?)
 }
 
 // The marks, and behind them the width; or the refusal and its chain, with the marks that were made before it.
-fn show(rt: &HostRuntime, told: &Answer) -> Result<Ended, Failure> {
+fn show(rt: &HostRuntime, options: &Options, told: &Answer) -> Result<Ended, Failure> {
     let mut out = Output::new(rt);
     for mark in told.lists.marks_written() {
         writeln!(out, "{}", Told(*mark));
@@ -50,9 +51,7 @@ fn show(rt: &HostRuntime, told: &Answer) -> Result<Ended, Failure> {
         }
         Err(refusal) => {
             writeln!(out, "refused {}: {}", refusal.number(), meaning(refusal));
-            for link in told.lists.links_written() {
-                writeln!(out, "{}", Told(*link));
-            }
+            show_chain(told.lists.links_written(), options, None, &mut out);
             Ended::Refused
         }
     };

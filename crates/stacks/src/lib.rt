@@ -2,7 +2,9 @@
 #![tactic(auto)]
 
 mod faces;
+mod fonts;
 mod ranks;
 
 pub use faces::faces_of;
+pub use fonts::font_of;
 pub use ranks::{Stack, stack_of};
