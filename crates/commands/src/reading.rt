@@ -1,5 +1,5 @@
 // The command at a place, and how many bytes it takes.
-ghost use Rattle.std.specs.Prelude.{◌≡◌, ◌+◌, ◌<◌, ◌≤◌, length, pos, Some, IfSome, OnSome};
+ghost use Rattle.std.specs.Prelude.{◌≡◌, ◌+◌, ◌<◌, ◌≤◌, length, pos, Some, IfSome, OnSome, slice_index};
 ghost use Rattle.numbers.specs.Bytes.{signed_at};
 ghost use Rattle.commands.specs.Commands.{set, code_at, sides_at, read_as, command_at};
 ghost use Rattle.commands.specs.Shapes.{shape_of};
@@ -11,12 +11,31 @@ use numbers::{signed_at, unsigned_at};
 
 // That a parameter ends within the bytes stands in each contract, since each is about another place of them.
 
-// The command that begins at `at`; none where the bytes end before it does.
+// The command that begins at `at`; none where the bytes end before it does. Most are characters in one byte, which are told
+// where they are asked for.
+#[inline(always)]
+#[tactic(auto, unfolding(crate::specs::Commands::command_at))]
 pub fn command_at(bytes: &[u8], at: usize) -> Option<(Command<'_>, usize)>
     ensures is { shape_of result ≡ command_at bytes.now at }
     ensures within { IfSome result (λ p. (0 < p.1) × (at + p.1 ≤ length bytes.now)) }
 {
-    let (kind, width) = kind_of(*bytes.get(at)?);
+    let op = *bytes.get(at)?;
+    if op < 128 {
+        let code = i64::from(op);
+        return Some((Command::Set { code }, 1));
+    }
+    other_command(bytes, at, op)
+}
+
+#[inline(never)]
+#[tactic(auto, unfolding(crate::specs::Commands::command_at))]
+fn other_command(bytes: &[u8], at: usize, op: u8) -> Option<(Command<'_>, usize)>
+    requires inside { at < length bytes.now }
+    requires op { op ≡ slice_index bytes.now at }
+    ensures is { shape_of result ≡ command_at bytes.now at }
+    ensures within { IfSome result (λ p. (0 < p.1) × (at + p.1 ≤ length bytes.now)) }
+{
+    let (kind, width) = kind_of(op);
     command_of(kind, bytes, at, width)
 }
 

@@ -37,6 +37,7 @@ impl Shelf for TfmShelf {
         })
     }
 
+    #[inline]
     fn character(
         &self,
         asked: Asked,

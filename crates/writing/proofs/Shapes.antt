@@ -44,12 +44,17 @@ module _ (F : ℕ → Facts) (pen : Pen) (face size code : ℕ) (h v : ℤ) (num
     all_room : pen.at + length (moves pen h v ++ ((def ++ selecting pen.last number) ++ (133 ∷ code ∷ []))) ≤ length was
     all_room = omega (arith, room, ap length glyph-is)
 
-    pub rest_room : at + length ((def ++ selecting pen.last number) ++ (133 ∷ code ∷ [])) ≤ length one
+    rest_room : at + length ((def ++ selecting pen.last number) ++ (133 ∷ code ∷ [])) ≤ length one
     rest_room = over_room pen.at at (moves pen h v) ((def ++ selecting pen.last number) ++ (133 ∷ code ∷ [])) was one moved behind all_room
 
-    pub glyph_written : two ≡ overwritten at (def ++ selecting pen.last number) one → next ≡ at + length (def ++ selecting pen.last number) → three ≡ overwritten next (133 ∷ code ∷ []) two
-        → three ≡ overwritten pen.at (mark_bytes F pen (Glyph face size code h v)) was
-    glyph_written font there last =
+    font_room : at + length (def ++ selecting pen.last number) ≤ length one
+    font_room = omega (arith, rest_room, length-append (def ++ selecting pen.last number) (133 ∷ code ∷ []))
+
+    pub glyph_written : (defined : List ℕ) (behind-it : ℕ) → defined ≡ overwritten at def one → behind-it ≡ at + length def → two ≡ overwritten behind-it (selecting pen.last number) defined → next ≡ behind-it + length (selecting pen.last number)
+        → three ≡ overwritten next (133 ∷ code ∷ []) two → three ≡ overwritten pen.at (mark_bytes F pen (Glyph face size code h v)) was
+    glyph_written defined behind-it d b s n last =
+        let font : two ≡ overwritten at (def ++ selecting pen.last number) one = over_two at behind-it def (selecting pen.last number) one defined two d b s font_room in
+        let there : next ≡ at + length (def ++ selecting pen.last number) = omega (arith, b, n, length-append def (selecting pen.last number)) in
         let rest : three ≡ overwritten at ((def ++ selecting pen.last number) ++ (133 ∷ code ∷ [])) one = over_two at next (def ++ selecting pen.last number) (133 ∷ code ∷ []) one two three font there last rest_room in
         over_two pen.at at (moves pen h v) ((def ++ selecting pen.last number) ++ (133 ∷ code ∷ [])) was one three moved behind rest all_room ∙ ap (λ x. overwritten pen.at x was) glyph-is
 

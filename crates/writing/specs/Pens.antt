@@ -4,8 +4,6 @@ use Rattle.shelf.specs.Meaning.{Facts}
 use Rattle.copies.specs.declared.pairs.Pair.{Pair}
 use Rattle.copies.specs.Marks.{Pen, define_bytes}
 use Rattle.writing.specs.declared.pens.Pen.{Pen as Held}
-use Rattle.writing.specs.declared.pieces.Piece.{Piece}
-use Rattle.writing.specs.Pieces.{made}
 
 abbrev pub pen_of : Held → List Pair → Pen
 pen_of p ps = record { h = p.h; v = p.v; last = p.last; pairs = ps; at = p.at }
@@ -14,7 +12,3 @@ pen_of p ps = record { h = p.h; v = p.v; last = p.last; pairs = ps; at = p.at }
 abbrev pub defining : (ℕ → Facts) → List Pair → Option ℕ → ℕ → ℕ → List ℕ
 defining F ps (Some n) face size = []
 defining F ps None face size = define_bytes (length ps) size (F face)
-
-abbrev pub defined_in : Option Piece → List ℕ
-defined_in (Some piece) = made piece
-defined_in None = []

@@ -8,7 +8,9 @@ ghost use Rattle.writing.specs.Pens.{pen_of};
 
 use crate::moves::{move_length, write_move};
 use crate::outputs::write_over;
-use crate::selections::{select, write_rule};
+use crate::selections::{
+    pass_definition, selection_length, write_definition, write_rule, write_selection,
+};
 use crate::standings::Standing;
 use copies::Pair;
 use pairs::PairTable;
@@ -66,20 +68,17 @@ impl Pen {
                 h: _,
                 v: _,
             } => {
-                let font = select(
-                    shelf,
-                    table,
-                    Pair {
-                        face,
-                        size,
-                        place: at,
-                    },
-                )?;
+                let pair = Pair {
+                    face,
+                    size,
+                    place: at,
+                };
+                let (number, defined) = pass_definition(shelf, table, pair)?;
                 Ok(Pen {
                     h,
                     v,
-                    last: Some(font.number),
-                    at: at + font.length(self.last) + 2,
+                    last: Some(number),
+                    at: at + defined + selection_length(self.last, number) + 2,
                 })
             }
             Mark::Rule {
@@ -122,13 +121,14 @@ impl Pen {
                 v: _,
             } => {
                 let place = at;
-                let font = select(shelf, table, Pair { face, size, place })?;
-                let at = font.write(self.last, at, out);
+                let pair = Pair { face, size, place };
+                let (number, at) = write_definition(shelf, table, pair, out)?;
+                let at = write_selection(self.last, number, at, out);
                 write_over(out, at, &[133, code]);
                 Ok(Pen {
                     h,
                     v,
-                    last: Some(font.number),
+                    last: Some(number),
                     at: at + 2,
                 })
             }

@@ -6,92 +6,87 @@ ghost use Rattle.copies.specs.Marks.{faces_of, selecting};
 ghost use Rattle.copies.specs.Pairs.{pair_by, numbered, entered};
 ghost use Rattle.copies.specs.Writing.{overwritten};
 ghost use Rattle.pairs.specs.Tables.{pairs_of};
-ghost use Rattle.writing.specs.Pens.{defined_in, defining};
+ghost use Rattle.writing.specs.Pens.{defining};
 
 use crate::definitions::{definition, told};
 use crate::outputs::write_over;
-use crate::pieces::Piece;
 use copies::Pair;
 use pairs::PairTable;
 use shelf::{Refusal, Shelf};
 
-// A pair that a mark selects: its number, and its definition if it is new.
-#[derive(Drop)]
-pub(crate) struct Selection {
-    pub(crate) number: usize,
-    definition: Option<Piece>,
-}
-
-// The pair's number; a new one is entered, and defined.
-pub(crate) fn select<S: Shelf>(
+// A pair that a mark selects, by its number, and how many bytes its definition takes; a new one is entered, and defined.
+pub(crate) fn pass_definition<S: Shelf>(
     shelf: &S,
     table: &mut PairTable,
     pair: Pair,
-) -> Result<Selection, Refusal>
-    ensures done { IfOk result (λ s. (s.number ≡ numbered (pairs_of table.old) (pair_by (pairs_of table.old) pair.face pair.size))
-        × (defined_in s.definition ≡ defining (faces_of (S.means shelf.now)) (pairs_of table.old) (pair_by (pairs_of table.old) pair.face pair.size) pair.face pair.size)
+) -> Result<(usize, usize), Refusal>
+    ensures done { IfOk result (λ r. (r.0 ≡ numbered (pairs_of table.old) (pair_by (pairs_of table.old) pair.face pair.size))
+        × (r.1 ≡ length (defining (faces_of (S.means shelf.now)) (pairs_of table.old) (pair_by (pairs_of table.old) pair.face pair.size) pair.face pair.size))
         × (pairs_of table.new ≡ entered (pairs_of table.old) (pair_by (pairs_of table.old) pair.face pair.size) pair)
-        × (s.number < 64) × (length (defined_in s.definition) ≤ 79)) }
+        × (r.0 < 64) × (r.1 ≤ 79)) }
     ensures full { IfErr result (λ e. (e ≡ PairsFull) × (64 < length (entered (pairs_of table.old) (pair_by (pairs_of table.old) pair.face pair.size) pair)) × (pairs_of table.new ≡ pairs_of table.old)) }
 {
     if let Some(number) = table.find(pair.face, pair.size) {
-        return Ok(Selection {
-            number,
-            definition: None,
-        });
+        return Ok((number, 0));
     }
     let number = table.len();
     table.enter(pair)?;
     let defined = definition(number, pair.size, told(shelf, pair.face));
-    Ok(Selection {
-        number,
-        definition: Some(defined),
-    })
+    Ok((number, defined.as_slice().len()))
 }
 
-impl Selection {
-    // How many bytes its definition and its selection take, behind a mark of the number that was selected last.
-    pub(crate) fn length(&self, last: Option<usize>) -> usize
-        requires { length (defined_in self.now.definition) ≤ 79 }
-        ensures value { result ≡ length (defined_in self.now.definition ++ selecting last self.now.number) }
-        ensures most { result ≤ 80 }
-    {
-        let defined = self
-            .definition
-            .as_ref()
-            .map_or(0, |piece| piece.as_slice().len());
-        defined + usize::from(last != Some(self.number))
+// The same with the definition written, which begins at the pair's place.
+pub(crate) fn write_definition<S: Shelf>(
+    shelf: &S,
+    table: &mut PairTable,
+    pair: Pair,
+    out: &mut [u8],
+) -> Result<(usize, usize), Refusal>
+    requires { pair.place + length (defining (faces_of (S.means shelf.now)) (pairs_of table.old) (pair_by (pairs_of table.old) pair.face pair.size) pair.face pair.size) ≤ length out.old }
+    ensures done { IfOk result (λ r. (r.0 ≡ numbered (pairs_of table.old) (pair_by (pairs_of table.old) pair.face pair.size))
+        × (r.1 ≡ pair.place + length (defining (faces_of (S.means shelf.now)) (pairs_of table.old) (pair_by (pairs_of table.old) pair.face pair.size) pair.face pair.size))
+        × (pairs_of table.new ≡ entered (pairs_of table.old) (pair_by (pairs_of table.old) pair.face pair.size) pair)
+        × (out.new ≡ overwritten pair.place (defining (faces_of (S.means shelf.now)) (pairs_of table.old) (pair_by (pairs_of table.old) pair.face pair.size) pair.face pair.size) out.old)
+        × (r.0 < 64)) }
+    ensures full { IfErr result (λ e. (e ≡ PairsFull) × (64 < length (entered (pairs_of table.old) (pair_by (pairs_of table.old) pair.face pair.size) pair)) × (pairs_of table.new ≡ pairs_of table.old)) }
+{
+    let at = pair.place;
+    if let Some(number) = table.find(pair.face, pair.size) {
+        return Ok((number, at));
     }
+    let number = table.len();
+    table.enter(pair)?;
+    let defined = definition(number, pair.size, told(shelf, pair.face));
+    let bytes = defined.as_slice();
+    write_over(out, at, bytes);
+    Ok((number, at + bytes.len()))
+}
 
-    // Writes them, and answers the place behind.
-    pub(crate) fn write(&self, last: Option<usize>, at: usize, out: &mut [u8]) -> usize
-        requires number { self.now.number < 64 }
-        requires room { at + length (defined_in self.now.definition ++ selecting last self.now.number) ≤ length out.old }
-        ensures after { result ≡ at + length (defined_in self.now.definition ++ selecting last self.now.number) }
-        ensures written { out.new ≡ overwritten at (defined_in self.now.definition ++ selecting last self.now.number) out.old }
-    {
-        let at = self.write_definition(at, out);
-        if last == Some(self.number) {
-            return at;
-        }
-        write_over(out, at, &[171 + self.number as u8]);
-        at + 1
-    }
+// How many bytes the selection of a number takes, behind a mark of the number that was selected last.
+pub(crate) fn selection_length(last: Option<usize>, number: usize) -> usize
+    ensures value { result ≡ length (selecting last number) }
+    ensures most { result ≤ 1 }
+{
+    usize::from(last != Some(number))
+}
 
-    fn write_definition(&self, at: usize, out: &mut [u8]) -> usize
-        requires { at + length (defined_in self.now.definition) ≤ length out.old }
-        ensures after { result ≡ at + length (defined_in self.now.definition) }
-        ensures written { out.new ≡ overwritten at (defined_in self.now.definition) out.old }
-    {
-        match &self.definition {
-            Some(piece) => {
-                let bytes = piece.as_slice();
-                write_over(out, at, bytes);
-                at + bytes.len()
-            }
-            None => at,
-        }
+// Writes it, and answers the place behind.
+pub(crate) fn write_selection(
+    last: Option<usize>,
+    number: usize,
+    at: usize,
+    out: &mut [u8],
+) -> usize
+    requires number { number < 64 }
+    requires room { at + length (selecting last number) ≤ length out.old }
+    ensures after { result ≡ at + length (selecting last number) }
+    ensures written { out.new ≡ overwritten at (selecting last number) out.old }
+{
+    if last == Some(number) {
+        return at;
     }
+    write_over(out, at, &[171 + number as u8]);
+    at + 1
 }
 
 // 137 and the sides of a rule, in 9 bytes.
