@@ -1,4 +1,10 @@
 // Copies the pages of a document into an output that grows as it has to.
+ghost use Rattle.std.specs.Prelude.{ℕ, List, take, IfOk};
+ghost use Rattle.copies.specs.Files.{Opening};
+ghost use Rattle.copying.specs.Copied.{Copied, Course, GoesOn};
+ghost use Rattle.ledgers.specs.Sources.{Source};
+ghost use Rattle.runs.specs.Views.{view_of};
+
 use answers::Lists;
 use runs::Run;
 use shelf::{Refusal, Shelf};
@@ -16,9 +22,6 @@ const FIRST_MARKS: usize = 4_096;
 
 // A packet on each of four ranks, and the page.
 const MAX_LINKS: usize = 5;
-
-// Either list grows to its greatest length in so many doublings.
-const MAX_TRIES: usize = 24;
 
 #[derive(Drop)]
 pub(crate) struct Copier {
@@ -44,22 +47,31 @@ impl Copier {
         })
     }
 
-    // The length of the closed file, or why there is none.
+    // So many pages from one on. Answers the length of the closed file, or why there is none.
     pub(crate) fn copy_pages<S: Shelf>(
         &mut self,
         shelf: &S,
         document: &[u8],
         first: usize,
-        last: usize,
+        count: usize,
         heap: Global,
-    ) -> Result<Result<usize, Stopped>, AllocError> {
+    ) -> Result<Result<usize, Stopped>, AllocError>
+        ensures { IfOk result (λ closed. IfOk closed (λ length. Copied (S.means shelf.now) document.now first count (take length self.new.out.items))) }
+    {
         let mut run = match Run::open(shelf, document, self.out.as_mut_slice()) {
             Ok(run) => run,
             Err(refusal) => return Ok(Err(Stopped { page: 0, refusal })),
         };
-        for page in first..=last {
-            if let Err(refusal) = self.copy_page(&mut run, document, page, heap)? {
-                return Ok(Err(Stopped { page, refusal }));
+        for k in 0..count {
+            let Some(page) = first.checked_add(k) else {
+                return Ok(Err(Stopped {
+                    page: usize::MAX,
+                    refusal: Refusal::NoPage,
+                }));
+            };
+            match self.copy_page(&mut run, document, page, heap)? {
+                Ok(()) => self.count_marks(),
+                Err(refusal) => return Ok(Err(Stopped { page, refusal })),
             }
         }
         Ok(
@@ -75,8 +87,10 @@ impl Copier {
         document: &[u8],
         page: usize,
         heap: Global,
-    ) -> Result<Result<(), Refusal>, AllocError> {
-        for _ in 0..MAX_TRIES {
+    ) -> Result<Result<(), Refusal>, AllocError>
+        ensures { (o : Opening) (es : List Source) → Course (S.means run.old.shelf.now) o es (view_of S.means run.old) self.old.out.items → IfOk result (GoesOn (S.means run.old.shelf.now) o es (record { document = document.now; page = page }) (view_of S.means run.new) self.new.out.items) }
+    {
+        loop {
             let copied = run.copy(
                 document,
                 page,
@@ -84,25 +98,25 @@ impl Copier {
                 self.lists.marks.as_mut_slice(),
                 self.out.as_mut_slice(),
             );
+            let room = self.lists.marks.len();
+            let length = self.out.len();
             match copied {
-                Err(Refusal::MarksFull) if self.lists.marks.len() < MAX_MARKS => {
-                    let room = self.lists.marks.len().saturating_mul(2);
-                    self.lists = Lists::fresh(room, MAX_LINKS, heap)?;
+                Err(Refusal::MarksFull) if room < MAX_MARKS => {
+                    self.lists = Lists::fresh((2 * room).max(FIRST_MARKS), MAX_LINKS, heap)?;
                 }
-                Err(Refusal::OutputFull) if self.out.len() < MAX_OUTPUT => {
+                Err(Refusal::OutputFull) if length < MAX_OUTPUT => {
                     self.lists.clear_marks();
-                    let length = self.out.len().saturating_mul(2);
-                    self.out.resize(length, 0)?;
+                    self.out.resize((2 * length).max(FIRST_OUTPUT), 0)?;
                 }
-                Ok(()) => {
-                    let count = self.lists.marks_written().len();
-                    self.marks = self.marks.saturating_add(count);
-                    self.lists.clear_marks();
-                    return Ok(Ok(()));
-                }
-                Err(refusal) => return Ok(Err(refusal)),
+                answered => return Ok(answered),
             }
         }
-        Ok(Err(Refusal::OutputFull))
+    }
+
+    // The marks of a page that was copied.
+    fn count_marks(&mut self) {
+        let count = self.lists.marks_written().len();
+        self.marks = self.marks.saturating_add(count);
+        self.lists.clear_marks();
     }
 }

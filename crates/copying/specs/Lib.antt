@@ -1,0 +1,3 @@
+pub mod Checked
+pub mod Copied
+pub mod Jobs
