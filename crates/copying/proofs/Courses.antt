@@ -1,5 +1,6 @@
 -- Runs on a course: what the calls leave. Assumes nothing.
-use Rattle.std.proofs.Common.{◌≡◌, ℕ, ◌+◌, ◌≤◌, Bool, true, false, List, [], ◌∷◌, length, take, min, Ok, Err, Result, sym, refl, ap, ◌∙◌, subst, arith}
+use Rattle.std.proofs.Common.{◌≡◌, ℕ, ◌+◌, ◌≤◌, Bool, true, false, List, [], ◌∷◌, length, take, min, Ok, Err, Result, sym, refl, ap, ◌∙◌, subst, arith, add-one}
+use Rattle.std.specs.Prelude.{IfOk}
 use Rattle.std.proofs.lemmas.List.{take-take}
 use Rattle.shelf.specs.declared.refusals.Refusal.{Refusal}
 use Rattle.shelf.specs.Laws.{Lawful}
@@ -12,7 +13,9 @@ use Rattle.ledgers.specs.Steps.{View, Act, copy, close, Answer, done, long, refu
 use Rattle.ledgers.specs.Ledgers.{Ledger, Call, ruled, booked, ledger, rulings}
 use Rattle.ledgers.specs.Histories.{used, AreBytes, History, opened, called, moved, ClosedFile, Faithful}
 use Rattle.ledgers.proofs.Tracks.{expected, Has, tracks}
-use Rattle.copying.specs.Copied.{Course, LastRefused}
+use Rattle.runs.specs.declared.runs.Run.{Run}
+use Rattle.runs.specs.Views.{begun, lengthened, said, view_of}
+use Rattle.copying.specs.Copied.{Copied, Course, GoesOn, LastRefused, Started, sources}
 
 module _ (m : Meaning) (o : Opening) where
   step : {cs : List Call} {as' : List Answer} {v : View} {out : List ℕ} → History m o cs as' v out → (c : Act) (v2 : View) (out2 : List ℕ) (a : Answer) → seen v2 out2 a ≡ stepped v c out
@@ -55,9 +58,20 @@ module _ (m : Meaning) (o : Opening) where
             sources-are = ap (λ (b : Ledger). b.sources) (ledger-by k course.calls (refused x) course.answers v2 out2 h) ∙ course.sources-are;
           }, (course.answers, refl))
 
+    -- and so by what a copy says
+    pub copies : (s : Source) (marks : ℕ) (r : Result (Unit {0}) Refusal) → seen v2 out2 (said r) ≡ stepped v (copy s marks) out → GoesOn m o es s v2 out2 r
+    copies s marks (Ok u) e = copy-done s marks e
+    copies s marks (Err x) e = copy-refused s marks x e
+
     -- a closed file is that of the sources
-    pub closes : Lawful m → (n : ℕ) (a : Answer) → Faithful v out out2 a → a ≡ long n → ClosedFile m o es (take n out2)
-    closes law n a f e = subst (λ (xs : List Source). ClosedFile m o xs (take n out2)) course.sources-are ((f m law o course.calls course.answers course.history).file n e)
+    pub closes : Lawful m → (r : Result ℕ Refusal) → Faithful v out out2 (lengthened r) → IfOk r (λ n. ClosedFile m o es (take n out2))
+    closes law (Ok n) f = subst (λ (xs : List Source). ClosedFile m o xs (take n out2)) course.sources-are ((f m law o course.calls course.answers course.history).file n refl)
+    closes law (Err x) f = tt
+
+  -- a refused page leaves the course
+  pub refused-on : (es : List Source) (s : Source) (v : View) (out : List ℕ) (r : Result (Unit {0}) Refusal) (e : Refusal) → GoesOn m o es s v out r → r ≡ Err e → Course m o es v out
+  refused-on es s v out (Err x) e goes is = goes.0
+  refused-on es s v out (Ok u) e goes is = absurd (let z : ◌≡◌ {A = ℕ} 0 1 = cc in omega arith)
 
   -- the run's bytes lie in its output
   within_by : (es : List Source) (r : Bool) (out : List ℕ) → Has m o es r out → used (expected m o (record { sources = es; running = r })) ≤ length out
@@ -80,11 +94,29 @@ module _ (m : Meaning) (o : Opening) where
         sources-are = course.sources-are;
       }
 
--- a run that was opened
-pub record Started (m : Meaning) (document : List ℕ) (es : List Source) (v : View) (out : List ℕ) : Type 0 where
-  pub stated : Document
-  pub judged : legal document ≡ Ok stated
-  pub course : Course m (opening_by stated) es v out
+none-yet : (m : Meaning) (o : Opening) → (ledger m o []).sources ≡ []
+unfolding ledger
+none-yet m o = refl
+
+-- a page more is taken
+pub one-more : (m : Meaning) (document : List ℕ) (first k page : ℕ) (v v2 : View) (out out2 : List ℕ) (r : Result (Unit {0}) Refusal) (u : Unit {0}) (started : Started m document (sources document first k) v out)
+    → GoesOn m (opening_by started.stated) (sources document first k) (record { document = document; page = page }) v2 out2 r → r ≡ Ok u → page ≡ first + k → Started m document (sources document first (k + 1)) v2 out2
+one-more m document first k page v v2 out out2 r u started goes is at =
+    let here : Course m (opening_by started.stated) (record { document = document; page = page } ∷ sources document first k) v2 out2 = subst (GoesOn m (opening_by started.stated) (sources document first k) (record { document = document; page = page }) v2 out2) is goes in
+    record {
+      stated = started.stated;
+      judged = started.judged;
+      course = subst (λ (n : ℕ). Course m (opening_by started.stated) (sources document first n) v2 out2) (sym (add-one k)) (subst (λ (n : ℕ). Course m (opening_by started.stated) (record { document = document; page = n } ∷ sources document first k) v2 out2) at here);
+    }
+
+-- a closed file is the copy of the pages that were taken
+pub copied : (m : Meaning) (document : List ℕ) (first count k : ℕ) (v : View) (out file : List ℕ) (started : Started m document (sources document first k) v out) → ClosedFile m (opening_by started.stated) (sources document first k) file → k ≡ count → Copied m document first count file
+copied m document first count k v out file started closed all =
+    record {
+      stated = started.stated;
+      judged = started.judged;
+      closed-file = subst (λ (n : ℕ). ClosedFile m (opening_by started.stated) (sources document first n) file) all closed;
+    }
 
 pub starts : (m : Meaning) (document out : List ℕ) (v : View) (out2 : List ℕ) → AreBytes document → ◌≡◌ {A = Begun} (record { run = Ok v; out = out2 }) (beginning m document out) → Started m document [] v out2
 starts m document out v out2 are e = by (legal document) refl
@@ -102,10 +134,10 @@ starts m document out v out2 are e = by (legal document) refl
             calls = [];
             answers = [];
             history = subst (λ (xs : List ℕ). History m (opening_by d) [] [] v xs) (ap (λ (b : Begun). b.out) (sym e)) (opened document out d v are q refl run-is);
-            sources-are = none;
+            sources-are = none-yet m (opening_by d);
           };
         }
-      where
-        none : (ledger m (opening_by d) []).sources ≡ []
-        unfolding ledger
-        none = refl
+
+pub opens : {S : Type 0} (means : S → Meaning) (m : Meaning) (document out : List ℕ) (r : Result (Run S) Refusal) (out2 : List ℕ) → AreBytes document → begun means r out2 ≡ beginning m document out → IfOk r (λ run. Started m document [] (view_of means run) out2)
+opens means m document out (Ok run) out2 are e = starts m document out (view_of means run) out2 are e
+opens means m document out (Err x) out2 are e = tt

@@ -36,3 +36,9 @@ LastRefused e answers = (earlier : List Answer) × (answers ≡ refused e ∷ ea
 abbrev pub GoesOn : Meaning → Opening → List Source → Source → View → List ℕ → Result (Unit {0}) Refusal → Type 0
 GoesOn m o es s v out (Ok u) = Course m o (s ∷ es) v out
 GoesOn m o es s v out (Err e) = (course : Course m o es v out) × LastRefused e course.answers
+
+-- a run that was opened on a document, and is on a course
+pub record Started (m : Meaning) (document : List ℕ) (es : List Source) (v : View) (out : List ℕ) : Type 0 where
+  pub stated : Document
+  pub judged : legal document ≡ Ok stated
+  pub course : Course m (opening_by stated) es v out

@@ -1,7 +1,5 @@
-use Rattle.std.proofs.Common.{List}
 use Rattle.runs.specs.Views.{view_of}
-use Rattle.copying.specs.Copied.{sources}
-use Rattle.copying.proofs.Courses.{Started}
+use Rattle.copying.specs.Copied.{Started, sources}
 use Rattle.copying.proofs.copier.Copier.copy_pages.Given as goal
 
 -- the pages so far are taken
