@@ -1,3 +1,5 @@
 pub mod Courses
+pub mod Pages
 pub mod Rooms
+pub mod Same
 pub mod Words

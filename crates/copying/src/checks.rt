@@ -3,7 +3,7 @@ ghost use Rattle.std.specs.Prelude.{◌≡◌, ◌+◌, ◌<◌, ℕ, IfOk, IfSo
 ghost use Rattle.copying.specs.Checked.{Checked, ReadsAs, SameCounts, is_yes, same_words};
 ghost use Rattle.copying.specs.Copied.{Copied};
 ghost use Rattle.copying.specs.declared.checks.Same.TheVariants.{Yes};
-ghost use Rattle.reading.specs.Reading.{page_reading};
+ghost use Rattle.reading.specs.Reading.{counts_of, page_reading};
 ghost use Rattle.shelf.specs.Outcomes.{ends, well};
 
 use crate::copier::Copier;
@@ -87,11 +87,25 @@ fn has_same_counts(
         let Some(page) = first.checked_add(k) else {
             return false;
         };
-        if counts_of(document, stated, page) != counts_of(file, written, k + 1) {
+        if !has_same_page_counts(document, stated, page, file, written, k + 1) {
             return false;
         }
     }
     true
+}
+
+// The same of one page and one of the file's.
+fn has_same_page_counts(
+    document: &[u8],
+    stated: Document,
+    page: usize,
+    file: &[u8],
+    written: Document,
+    n: usize,
+) -> bool
+    ensures { result ≡ true → counts_of document.now stated page ≡ counts_of file.now written n }
+{
+    counts_of(document, stated, page) == counts_of(file, written, n)
 }
 
 // The marks of so many pages from one on; none where one is refused.
@@ -130,11 +144,17 @@ fn reads_as<S: Shelf>(
 {
     for (k, marks) in wanted.iter().enumerate() {
         match marks_of(shelf, file, written, k + 1, heap)? {
-            Some(got) if got.as_slice() == marks.as_slice() => {}
+            Some(got) if are_same(got.as_slice(), marks.as_slice()) => {}
             _ => return Ok(false),
         }
     }
     Ok(true)
+}
+
+fn are_same(marks: &[Mark], others: &[Mark]) -> bool
+    ensures { result ≡ true → marks.now ≡ others.now }
+{
+    marks == others
 }
 
 // Whether so many pages of a file, copied, make the same file.
