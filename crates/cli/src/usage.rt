@@ -29,8 +29,9 @@ dviflat reads TeX's DVI through virtual fonts, and writes it out flat
       many pages, marks, pairs and bytes there are; --check, first or last,
       reads the file back and copies it again, and compares
 
-  dviflat replay SCRIPT
-      runs a script of calls on the library, and prints the answer to each
+  dviflat replay SCRIPT [--expect FILE]
+      runs a script of calls on the library, and prints the answer to each; or
+      compares the answers with those in FILE, and shows which cases differ
 
   dviflat help
       prints this text

@@ -1,5 +1,5 @@
 -- Runs on a course: what the calls leave. Assumes nothing.
-use Rattle.std.proofs.Common.{◌≡◌, ℕ, ◌+◌, ◌≤◌, Bool, true, false, List, [], ◌∷◌, length, take, min, Ok, Err, Result, sym, refl, ap, ◌∙◌, subst, arith, add-one}
+use Rattle.std.proofs.Common.{◌≡◌, ℕ, ◌+◌, ◌≤◌, Bool, true, false, List, [], ◌∷◌, length, take, Ok, Err, Result, sym, refl, ap, ◌∙◌, subst, arith, add-one}
 use Rattle.std.specs.Prelude.{IfOk}
 use Rattle.std.proofs.lemmas.List.{take-take}
 use Rattle.shelf.specs.declared.refusals.Refusal.{Refusal}
@@ -9,7 +9,7 @@ use Rattle.document.specs.declared.documents.Document.{Document}
 use Rattle.document.specs.Legal.{legal}
 use Rattle.copies.specs.Files.{Opening}
 use Rattle.ledgers.specs.Sources.{Source}
-use Rattle.ledgers.specs.Steps.{View, Act, copy, close, Answer, done, long, refused, Seen, seen, stepped, Begun, opening_by, beginning_by, beginning}
+use Rattle.ledgers.specs.Steps.{View, Act, copy, Answer, done, refused, Seen, seen, stepped, Begun, opening_by, beginning_by, beginning}
 use Rattle.ledgers.specs.Ledgers.{Ledger, Call, ruled, booked, ledger, rulings}
 use Rattle.ledgers.specs.Histories.{used, AreBytes, History, opened, called, moved, ClosedFile, Faithful}
 use Rattle.ledgers.proofs.Tracks.{expected, Has, tracks}
@@ -50,13 +50,15 @@ module _ (m : Meaning) (o : Opening) where
       pub copy-refused : (e : Refusal) → seen v2 out2 (refused e) ≡ stepped v (copy s marks) out → (next : Course m o es v2 out2) × LastRefused e next.answers
       copy-refused x e =
           let k : Call = record { act = copy s marks; room = length out } in
-          let h = step course.history (copy s marks) v2 out2 (refused x) e in
-          (record {
-            calls = k ∷ course.calls;
-            answers = refused x ∷ course.answers;
-            history = h;
-            sources-are = ap (λ (b : Ledger). b.sources) (ledger-by k course.calls (refused x) course.answers v2 out2 h) ∙ course.sources-are;
-          }, (course.answers, refl))
+          let h = step course.history (copy s marks) v2 out2 (refused x) e in (
+            record {
+              calls = k ∷ course.calls;
+              answers = refused x ∷ course.answers;
+              history = h;
+              sources-are = ap (λ (b : Ledger). b.sources) (ledger-by k course.calls (refused x) course.answers v2 out2 h) ∙ course.sources-are;
+            },
+            (course.answers, refl),
+          )
 
     -- and so by what a copy says
     pub copies : (s : Source) (marks : ℕ) (r : Result (Unit {0}) Refusal) → seen v2 out2 (said r) ≡ stepped v (copy s marks) out → GoesOn m o es s v2 out2 r

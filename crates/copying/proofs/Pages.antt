@@ -1,6 +1,6 @@
 -- Pages read in full. Assumes nothing.
 use Rattle.std.proofs.Common.{◌≡◌, ℕ, ◌+◌, ◌<◌, ◌≤◌, Bool, true, false, cond, List, [], ◌∷◌, ◌++◌, length, get_or, take, Ok, Err, Result, sym, refl, ap, ap₂, ◌∙◌, arith, length-append, inl, inr, ◌⊎◌}
-use Rattle.std.specs.Prelude.{nat_le, map}
+use Rattle.std.specs.Prelude.{nat_le}
 use Rattle.std.proofs.lemmas.Bool.{cases_lt, leb-true}
 use Rattle.std.proofs.lemmas.List.{get_or_append_left, get_or_push}
 use Rattle.shelf.specs.declared.marks.Link.{Link}
@@ -12,7 +12,6 @@ use Rattle.shelf.specs.Meaning.{Meaning}
 use Rattle.shelf.specs.Outcomes.{Outcome, Ending, ends, fault, well}
 use Rattle.shelf.proofs.Compose.{take-overlay}
 use Rattle.document.specs.declared.documents.Document.{Document}
-use Rattle.machine.specs.Views.{counted}
 use Rattle.reading.specs.Reading.{Served, page_reading}
 use Rattle.copying.specs.Checked.{ReadsAs}
 

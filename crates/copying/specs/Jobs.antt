@@ -1,12 +1,11 @@
 -- What the words of `flatten` ask for.
 use Rattle.std.specs.Prelude.{ℕ, ◌+◌, ◌-◌, ◌^◌, min, nat_le, Bool, true, false, cond, List, [], ◌∷◌, codes, length, slice_index_or, take, Option, None, Some, String}
 use Rattle.std.specs.declared.alloc.Global.{Global}
-use Rattle.std.specs.Option.{option_map}
 use Rattle.std.specs.Str.{bytes_eq}
 use Rattle.std.specs.String.{string_bytes}
 use Rattle.terminal.specs.declared.kinds.Kind.{Kind}
 use Rattle.terminal.specs.declared.kinds.Kind.TheVariants.{Tfm, Rank, Out, Pages}
-use Rattle.terminal.specs.Options.{Given, and_then, fresh, given_of, parsed}
+use Rattle.terminal.specs.Options.{Given, fresh, given_of, parsed}
 use Rattle.copying.specs.declared.jobs.Job.{Job}
 
 -- the document, the file to write, the options, and whether it is checked

@@ -83,11 +83,7 @@ impl Copier {
         }
     }
 
-    fn open<'s, S: Shelf>(
-        &mut self,
-        shelf: &'s S,
-        document: &[u8],
-    ) -> Result<Run<'s, S>, Refusal>
+    fn open<'s, S: Shelf>(&mut self, shelf: &'s S, document: &[u8]) -> Result<Run<'s, S>, Refusal>
         ensures { IfOk result (λ run. Started (S.means shelf.now) document.now [] (view_of S.means run) self.new.out.items) }
     {
         Run::open(shelf, document, self.out.as_mut_slice())

@@ -80,8 +80,11 @@ fn tell_stop(file: &str, stopped: Stopped, copier: &Copier, out: &mut Output) {
 fn write_file(rt: &HostRuntime, target: &str, bytes: &[u8]) -> Result<(), Failure> {
     let heap = rt.alloc();
     let partial = format!(in heap; "{target}.part")?;
-    let written = fs::write(rt, partial.as_str(), bytes)
-        .and_then(|()| fs::rename(rt, partial.as_str(), target));
+    let written = fs::write(rt, partial.as_str(), bytes).and_then(|()| fs::rename(
+        rt,
+        partial.as_str(),
+        target,
+    ));
     if written.is_err() {
         let _ = fs::remove_file(rt, partial.as_str());
     }

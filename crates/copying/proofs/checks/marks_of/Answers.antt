@@ -1,4 +1,4 @@
-use Rattle.std.proofs.Common.{rules, ◌≡◌, ℕ, Ok, Err, Result, ap, sym, subst, take, ◌∙◌, ◌-◌, List, arith}
+use Rattle.std.proofs.Common.{◌≡◌, ℕ, Ok, Result, ap, sym, subst, take, ◌∙◌, ◌-◌, List, arith}
 use Rattle.shelf.specs.declared.marks.Mark.{Mark}
 use Rattle.shelf.specs.declared.refusals.Refusal.{Refusal}
 use Rattle.shelf.specs.Outcomes.{ends, well}

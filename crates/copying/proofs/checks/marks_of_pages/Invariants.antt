@@ -1,6 +1,4 @@
-use Rattle.std.proofs.Common.{◌≡◌, ℕ, List, length}
 use Rattle.std.specs.Prelude.{map}
-use Rattle.copying.specs.Checked.{ReadsAs}
 use Rattle.copying.proofs.Pages.{SoFar}
 use Rattle.copying.proofs.checks.marks_of_pages.Given as goal
 

@@ -12,6 +12,6 @@ returns-in-len1-up-2 c =
 pub returns-in_default : goal.returns-in_default
 returns-in_default c =
     elim c.in_default.branch [
-      in_default-via-then-words-lt1 w ↦ no-words c.args.words.now (omega (arith, ltb-true))
-    | in_default-via-in-len1-up-2+else-is_check-2 w ↦ nowhere c.args.words.now w.first-item.result w.last-item.result (omega arith) (ap is_check (sym w.first-item.is) ∙ sym w.is_check.ensures ∙ w.if-is_check.false) (ap is_check (sym w.last-item.is) ∙ sym w.is_check-2.ensures ∙ w.if-is_check-2.false)
+      | in_default-via-then-words-lt1 w ↦ no-words c.args.words.now (omega (arith, ltb-true))
+      | in_default-via-in-len1-up-2+else-is_check-2 w ↦ nowhere c.args.words.now w.first-item.result w.last-item.result (omega arith) (ap is_check (sym w.first-item.is) ∙ sym w.is_check.ensures ∙ w.if-is_check.false) (ap is_check (sym w.last-item.is) ∙ sym w.is_check-2.ensures ∙ w.if-is_check-2.false)
     ]

@@ -1,4 +1,4 @@
-use Rattle.std.proofs.Common.{rules, arith, take, sym, ap, subst, List, ℕ}
+use Rattle.std.proofs.Common.{rules, take, subst, List, ℕ}
 use Rattle.std.specs.Prelude.{IfOk}
 use Rattle.ledgers.specs.Histories.{ClosedFile}
 use Rattle.runs.specs.Views.{view_of}

@@ -1,4 +1,4 @@
-use Rattle.std.proofs.Common.{ℕ, ◌+◌, ◌-◌, List, length}
+use Rattle.std.proofs.Common.{◌+◌, ◌-◌, List, length}
 use Rattle.copies.specs.Files.{Opening}
 use Rattle.ledgers.specs.Sources.{Source}
 use Rattle.runs.specs.Views.{view_of}

@@ -1,6 +1,4 @@
 use Rattle.std.proofs.Common.{arith, ap, sym, subst, List, ℕ, ◌+◌}
-use Rattle.std.specs.declared.vec.Vec.{Vec}
-use Rattle.copies.specs.Files.{Opening}
 use Rattle.ledgers.specs.Steps.{opening_by}
 use Rattle.runs.specs.Views.{view_of}
 use Rattle.copying.specs.Copied.{Started, sources}

@@ -1,6 +1,5 @@
-use Rattle.std.proofs.Common.{rules, arith, ap, subst, List, ℕ, ◌≡◌, [], ◌∙◌}
+use Rattle.std.proofs.Common.{rules, arith, subst, List, ℕ, []}
 use Rattle.std.specs.Prelude.{IfOk}
-use Rattle.ledgers.specs.Steps.{beginning}
 use Rattle.runs.specs.Views.{view_of}
 use Rattle.copying.specs.Copied.{Started}
 use Rattle.copying.proofs.Courses.{opens}

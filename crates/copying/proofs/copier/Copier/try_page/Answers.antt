@@ -1,4 +1,4 @@
-use Rattle.std.proofs.Common.{rules, arith, sym, ap, subst, List, ℕ}
+use Rattle.std.proofs.Common.{rules, subst, List, ℕ}
 use Rattle.runs.specs.Views.{view_of}
 use Rattle.ledgers.specs.Sources.{Source}
 use Rattle.copying.specs.Copied.{Course, GoesOn}
