@@ -1,3 +1,4 @@
+pub mod Counts
 pub mod Courses
 pub mod Pages
 pub mod Rooms
