@@ -1,7 +1,7 @@
 // The lists that a call fills, and how what it wrote is told.
-ghost use Rattle.std.specs.Prelude.{◌≡◌, take, drop, Some, IfOk};
+ghost use Rattle.std.specs.Prelude.{◌≡◌, ◌++◌, take, drop, Some, IfOk};
 ghost use Rattle.answers.specs.Fresh.{no_links, no_marks};
-ghost use Rattle.answers.specs.Lists.{has_other, lists_text, same_link, same_mark, written, written_count};
+ghost use Rattle.answers.specs.Lists.{has_other, lists_text, same_link, same_mark, unwritten, written, written_count};
 
 use crate::lines::Told;
 use shelf::{Link, Mark};
@@ -55,11 +55,11 @@ impl Lists {
     }
 
     // As if nothing had been written to the front of the mark list.
-    pub fn clear_marks(&mut self) {
-        let count = self.marks_written().len();
-        for mark in self.marks.as_mut_slice().iter_mut().take(count) {
-            *mark = MARK_FILLER;
-        }
+    pub fn clear_marks(&mut self)
+        ensures marks { self.new.marks.items ≡ no_marks (written_count same_mark MARK_FILLER self.old.marks.items) ++ unwritten same_mark MARK_FILLER self.old.marks.items }
+        ensures chain { self.new.chain ≡ self.old.chain }
+    {
+        clear_front(self.marks.as_mut_slice());
     }
 
     pub fn tell(&self, out: &mut Output) {
@@ -94,6 +94,14 @@ fn front<'a, T: PartialEq>(list: &'a [T], filler: &T) -> (&'a [T], &'a [T])
 {
     let end = list.iter().position(|entry| entry == filler);
     list.split_at(end.unwrap_or(list.len()))
+}
+
+#[tactic(auto, unfolding(crate::specs::Fresh::no_marks))]
+fn clear_front(marks: &mut [Mark])
+    ensures { marks.new ≡ no_marks (written_count same_mark MARK_FILLER marks.old) ++ unwritten same_mark MARK_FILLER marks.old }
+{
+    let count = front(marks, &MARK_FILLER).0.len();
+    marks[..count].fill(MARK_FILLER);
 }
 
 fn has_stray<T: PartialEq>(list: &[T], filler: &T) -> bool

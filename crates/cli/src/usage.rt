@@ -85,8 +85,9 @@ const CHARACTER: &str = "  dviflat character --tfm NAME=FILE.. --rank NAME=FILE,
       at 0,0, and its width; or the refusal, and where it happened
 ";
 
-const REPLAY: &str = "  dviflat replay SCRIPT
-      runs a script of calls on the library, and prints the answer to each
+const REPLAY: &str = "  dviflat replay SCRIPT [--expect FILE]
+      runs a script of calls on the library, and prints the answer to each; or
+      compares the answers with those in FILE, and shows which cases differ
 ";
 
 const HELP: &str = "  dviflat help [COMMAND]

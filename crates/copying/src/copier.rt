@@ -1,4 +1,13 @@
 // Copies the pages of a document into an output that grows as it has to.
+ghost use Rattle.std.specs.Prelude.{◌≡◌, ◌<◌, ◌≤◌, ℕ, List, [], length, take, IfOk, OnOk};
+ghost use Rattle.copies.specs.Files.{Opening};
+ghost use Rattle.copying.specs.Copied.{Copied, Course, GoesOn, Started};
+ghost use Rattle.ledgers.specs.Histories.{ClosedFile};
+ghost use Rattle.ledgers.specs.Sources.{Source};
+ghost use Rattle.runs.specs.Views.{view_of};
+ghost use Rattle.shelf.specs.Laws.{Lawful};
+ghost use Rattle.shelf.specs.Meaning.{Meaning};
+
 use answers::Lists;
 use runs::Run;
 use shelf::{Refusal, Shelf};
@@ -16,9 +25,6 @@ const FIRST_MARKS: usize = 4_096;
 
 // A packet on each of four ranks, and the page.
 const MAX_LINKS: usize = 5;
-
-// Either list grows to its greatest length in so many doublings.
-const MAX_TRIES: usize = 24;
 
 #[derive(Drop)]
 pub(crate) struct Copier {
@@ -44,28 +50,50 @@ impl Copier {
         })
     }
 
-    // The length of the closed file, or why there is none.
+    // So many pages from one on. Answers the length of the closed file, or why there is none.
     pub(crate) fn copy_pages<S: Shelf>(
         &mut self,
         shelf: &S,
         document: &[u8],
         first: usize,
-        last: usize,
+        count: usize,
         heap: Global,
-    ) -> Result<Result<usize, Stopped>, AllocError> {
-        let mut run = match Run::open(shelf, document, self.out.as_mut_slice()) {
+    ) -> Result<Result<usize, Stopped>, AllocError>
+        ensures { IfOk result (λ closed. IfOk closed (λ length. Copied (S.means shelf.now) document.now first count (take length self.new.out.items))) }
+    {
+        let mut run = match self.open(shelf, document) {
             Ok(run) => run,
             Err(refusal) => return Ok(Err(Stopped { page: 0, refusal })),
         };
-        for page in first..=last {
-            if let Err(refusal) = self.copy_page(&mut run, document, page, heap)? {
-                return Ok(Err(Stopped { page, refusal }));
+        for k in 0..count {
+            let Some(page) = first.checked_add(k) else {
+                return Ok(Err(Stopped {
+                    page: usize::MAX,
+                    refusal: Refusal::NoPage,
+                }));
+            };
+            match self.copy_page(&mut run, document, page, heap)? {
+                Ok(()) => self.count_marks(),
+                Err(refusal) => return Ok(Err(Stopped { page, refusal })),
             }
         }
-        Ok(
-            run.close(self.out.as_mut_slice())
-                .map_err(|refusal| Stopped { page: 0, refusal }),
-        )
+        match self.close(&mut run) {
+            Ok(length) => Ok(Ok(length)),
+            Err(refusal) => Ok(Err(Stopped { page: 0, refusal })),
+        }
+    }
+
+    fn open<'s, S: Shelf>(&mut self, shelf: &'s S, document: &[u8]) -> Result<Run<'s, S>, Refusal>
+        ensures { IfOk result (λ run. Started (S.means shelf.now) document.now [] (view_of S.means run) self.new.out.items) }
+    {
+        Run::open(shelf, document, self.out.as_mut_slice())
+    }
+
+    // Answers the length of the closed file.
+    fn close<S: Shelf>(&mut self, run: &mut Run<'_, S>) -> Result<usize, Refusal>
+        ensures { (m : Meaning) (o : Opening) (es : List Source) → Lawful m → Course m o es (view_of S.means run.old) self.old.out.items → IfOk result (λ length. ClosedFile m o es (take length self.new.out.items)) }
+    {
+        run.close(self.out.as_mut_slice())
     }
 
     // A page, with as much room for its marks and for the output as it turns out to need.
@@ -75,34 +103,70 @@ impl Copier {
         document: &[u8],
         page: usize,
         heap: Global,
-    ) -> Result<Result<(), Refusal>, AllocError> {
-        for _ in 0..MAX_TRIES {
-            let copied = run.copy(
-                document,
-                page,
-                self.lists.chain.as_mut_slice(),
-                self.lists.marks.as_mut_slice(),
-                self.out.as_mut_slice(),
-            );
-            match copied {
-                Err(Refusal::MarksFull) if self.lists.marks.len() < MAX_MARKS => {
-                    let room = self.lists.marks.len().saturating_mul(2);
-                    self.lists = Lists::fresh(room, MAX_LINKS, heap)?;
-                }
-                Err(Refusal::OutputFull) if self.out.len() < MAX_OUTPUT => {
-                    self.lists.clear_marks();
-                    let length = self.out.len().saturating_mul(2);
-                    self.out.resize(length, 0)?;
-                }
-                Ok(()) => {
-                    let count = self.lists.marks_written().len();
-                    self.marks = self.marks.saturating_add(count);
-                    self.lists.clear_marks();
-                    return Ok(Ok(()));
-                }
-                Err(refusal) => return Ok(Err(refusal)),
+    ) -> Result<Result<(), Refusal>, AllocError>
+        ensures { (m : Meaning) (o : Opening) (es : List Source) → Course m o es (view_of S.means run.old) self.old.out.items → IfOk result (GoesOn m o es (record { document = document.now; page = page }) (view_of S.means run.new) self.new.out.items) }
+    {
+        loop {
+            let copied = self.try_page(run, document, page);
+            if matches!(copied, Err(Refusal::MarksFull)) && self.lists.marks.len() < MAX_MARKS {
+                self.widen_marks(heap)?;
+            } else if matches!(copied, Err(Refusal::OutputFull)) && self.out.len() < MAX_OUTPUT {
+                self.widen_output()?;
+            } else {
+                return Ok(copied);
             }
         }
-        Ok(Err(Refusal::OutputFull))
+    }
+
+    // A page, with the room that there is.
+    fn try_page<S: Shelf>(
+        &mut self,
+        run: &mut Run<'_, S>,
+        document: &[u8],
+        page: usize,
+    ) -> Result<(), Refusal>
+        ensures course { (m : Meaning) (o : Opening) (es : List Source) → Course m o es (view_of S.means run.old) self.old.out.items → GoesOn m o es (record { document = document.now; page = page }) (view_of S.means run.new) self.new.out.items result }
+        ensures marks { length self.new.lists.marks.items ≡ length self.old.lists.marks.items }
+        ensures out { length self.new.out.items ≡ length self.old.out.items }
+    {
+        run.copy(
+            document,
+            page,
+            self.lists.chain.as_mut_slice(),
+            self.lists.marks.as_mut_slice(),
+            self.out.as_mut_slice(),
+        )
+    }
+
+    // Twice the room for marks, none of them written.
+    fn widen_marks(&mut self, heap: Global) -> Result<(), AllocError>
+        ensures marks { OnOk result (length self.old.lists.marks.items < MAX_MARKS → length self.old.lists.marks.items < length self.new.lists.marks.items) }
+        ensures out { self.new.out ≡ self.old.out }
+    {
+        let room = self.lists.marks.len();
+        let wider = room.saturating_mul(2).max(FIRST_MARKS);
+        self.lists = Lists::fresh(wider, MAX_LINKS, heap)?;
+        Ok(())
+    }
+
+    // Twice the room for the output, and no mark written.
+    fn widen_output(&mut self) -> Result<(), AllocError>
+        ensures front { take (length self.old.out.items) self.new.out.items ≡ self.old.out.items }
+        ensures longer { OnOk result (length self.old.out.items < length self.new.out.items) }
+        ensures marks { length self.new.lists.marks.items ≡ length self.old.lists.marks.items }
+    {
+        self.lists.clear_marks();
+        let length = self.out.len();
+        self.out
+            .resize(length.saturating_mul(2).max(FIRST_OUTPUT), 0)
+    }
+
+    // The marks of a page that was copied.
+    fn count_marks(&mut self)
+        ensures { self.new.out ≡ self.old.out }
+    {
+        let count = self.lists.marks_written().len();
+        self.marks = self.marks.saturating_add(count);
+        self.lists.clear_marks();
     }
 }

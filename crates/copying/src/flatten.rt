@@ -1,9 +1,13 @@
 // `flatten`: copies a document, or some of its pages, to a file in which every font is a face.
+ghost use Rattle.std.specs.Prelude.{◌≡◌};
+ghost use Rattle.copying.specs.Jobs.{pages_given};
+
 use crate::checks::check_file;
 use crate::copier::{Copier, Stopped};
 use crate::fonts::count_fonts;
 use crate::jobs::Job;
 use answers::{Told, meaning};
+use document::Document;
 use inspect::legal_document;
 use stacks::stack_of;
 use std::fs;
@@ -15,10 +19,10 @@ pub fn write_flat(rt: &HostRuntime, words: &[String]) -> Result<Ended, Failure> 
     let stack = stack_of(rt, &job.options)?;
     let (read, stated) = legal_document(rt, job.file)?;
     let document = read.as_slice();
-    let (first, last) = job.pages.unwrap_or((1, usize::from(stated.pages)));
+    let (first, count) = pages_of(job.options.pages, stated);
     let mut copier = Copier::new(heap)?;
     let mut out = Output::new(rt);
-    match copier.copy_pages(&stack, document, first, last, heap)? {
+    match copier.copy_pages(&stack, document, first, count, heap)? {
         Err(stopped) => {
             tell_stop(job.file, stopped, &copier, &mut out);
             out.finish()?;
@@ -26,8 +30,7 @@ pub fn write_flat(rt: &HostRuntime, words: &[String]) -> Result<Ended, Failure> 
         }
         Ok(length) => {
             let file = copier.out.as_slice().get(..length).unwrap_or(&[]);
-            let copied = (last.saturating_add(1)).saturating_sub(first);
-            writeln!(out, "pages {copied}");
+            writeln!(out, "pages {count}");
             writeln!(out, "marks {}", copier.marks);
             writeln!(out, "pairs {}", count_fonts(file));
             writeln!(out, "bytes in {}", document.len());
@@ -37,13 +40,24 @@ pub fn write_flat(rt: &HostRuntime, words: &[String]) -> Result<Ended, Failure> 
                 let same = check_file(stack, document, stated, first, file, heap)?;
                 writeln!(out, "{}", same.words());
                 if !same.is_same() {
-                    ended = Ended::Refused;
+                    ended = Ended::Differs;
                 }
             }
             write_file(rt, job.target, file)?;
             out.finish()?;
             Ok(ended)
         }
+    }
+}
+
+// The first page, and how many there are: of those from one to another, or of all.
+fn pages_of(given: Option<(usize, usize)>, stated: Document) -> (usize, usize)
+    ensures { result ≡ pages_given given stated.pages }
+{
+    match given {
+        Some((first, last)) if first <= last => (first, (last - first).saturating_add(1)),
+        Some((first, _)) => (first, 0),
+        None => (1, usize::from(stated.pages)),
     }
 }
 
@@ -62,14 +76,17 @@ fn tell_stop(file: &str, stopped: Stopped, copier: &Copier, out: &mut Output) {
     }
 }
 
-// Written whole under another name first, so that no half of a file is left under its own.
+// Written whole under another name first, so that no half of a file is left under its own, nor under the other.
 fn write_file(rt: &HostRuntime, target: &str, bytes: &[u8]) -> Result<(), Failure> {
     let heap = rt.alloc();
     let partial = format!(in heap; "{target}.part")?;
-    fs::write(rt, partial.as_str(), bytes).try_map_err(|error| Ok(Failure::Told(format!(in heap;
-        "{target}: {error}"
-    )?)))?;
-    fs::rename(rt, partial.as_str(), target).try_map_err(|error| Ok(Failure::Told(format!(in heap;
-        "{target}: {error}"
-    )?)))
+    let written = fs::write(rt, partial.as_str(), bytes).and_then(|()| fs::rename(
+        rt,
+        partial.as_str(),
+        target,
+    ));
+    if written.is_err() {
+        let _ = fs::remove_file(rt, partial.as_str());
+    }
+    written.try_map_err(|error| Ok(Failure::Told(format!(in heap; "{target}: {error}")?)))
 }

@@ -1,4 +1,10 @@
 // A page read with as much room for its marks as it turns out to need.
+ghost use Rattle.std.specs.Prelude.{◌≡◌, ℕ, IfOk, Err};
+ghost use Rattle.answers.specs.Fresh.{no_links, no_marks};
+ghost use Rattle.machine.specs.Views.{counted};
+ghost use Rattle.reading.specs.Reading.{Served, page_reading};
+ghost use Rattle.shelf.specs.declared.refusals.Refusal.TheVariants.{MarksFull};
+
 use answers::Lists;
 use document::Document;
 use reading::read_page;
@@ -27,7 +33,9 @@ pub(crate) fn page_of<S: Shelf>(
     stated: Document,
     page: usize,
     heap: Global,
-) -> Result<Page, AllocError> {
+) -> Result<Page, AllocError>
+    ensures { IfOk result (λ p. (room : ℕ) × Served (page_reading (S.means shelf.now) bytes.now stated page) (no_links MAX_LINKS) p.lists.chain.items (no_marks room) p.lists.marks.items (counted p.answer) × (p.answer ≡ Err MarksFull → room ≡ MAX_MARKS)) }
+{
     for room in ROOMS {
         let read = page_with(shelf, bytes, stated, page, room, heap)?;
         if !matches!(read.answer, Err(Refusal::MarksFull)) {
@@ -44,7 +52,9 @@ fn page_with<S: Shelf>(
     page: usize,
     room: usize,
     heap: Global,
-) -> Result<Page, AllocError> {
+) -> Result<Page, AllocError>
+    ensures { IfOk result (λ p. Served (page_reading (S.means shelf.now) bytes.now stated page) (no_links MAX_LINKS) p.lists.chain.items (no_marks room) p.lists.marks.items (counted p.answer)) }
+{
     let mut lists = Lists::fresh(room, MAX_LINKS, heap)?;
     let answer = read_page(
         bytes,

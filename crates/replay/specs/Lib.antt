@@ -1,3 +1,4 @@
 pub mod Stops
 pub mod Layers
 pub mod Codes
+pub mod Cases

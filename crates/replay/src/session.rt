@@ -7,7 +7,7 @@ use crate::stops::Stop;
 use answers::Told;
 use script::{Number, Problem, Store};
 use shelf::Cause;
-use terminal::{Failure, Output};
+use terminal::Output;
 
 #[derive(Drop)]
 pub struct Session<'a> {
@@ -18,11 +18,11 @@ pub struct Session<'a> {
 }
 
 impl<'a> Session<'a> {
-    pub fn new(rt: &'a HostRuntime) -> Session<'a> {
+    pub fn new(rt: &'a HostRuntime, out: Output) -> Session<'a> {
         let heap = rt.alloc();
         Session {
             rt,
-            out: Output::new(rt),
+            out,
             store: Store::new(heap),
             buffer: Buffer::empty(heap),
         }
@@ -57,14 +57,14 @@ impl<'a> Session<'a> {
         Ok(())
     }
 
-    pub fn finish(self) -> Result<(), Failure> {
+    pub fn into_output(self) -> Output {
         let Session {
             rt: _,
             out,
             store: _,
             buffer: _,
         } = self;
-        out.finish()
+        out
     }
 
     // The lines that ask neither a shelf nor a run. Those that name or change bytes have no answer.

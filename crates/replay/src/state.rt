@@ -8,7 +8,7 @@ use crate::stops::Stop;
 use answers::Told;
 use script::Problem;
 use shelf::Shelf;
-use terminal::Failure;
+use terminal::Output;
 use tfm::{Entry, TfmShelf};
 
 #[derive(Drop)]
@@ -18,9 +18,9 @@ pub struct State<'a> {
 }
 
 impl<'a> State<'a> {
-    pub fn new(rt: &'a HostRuntime) -> State<'a> {
+    pub fn new(rt: &'a HostRuntime, out: Output) -> State<'a> {
         State {
-            session: Session::new(rt),
+            session: Session::new(rt, out),
             shelf: None,
         }
     }
@@ -107,9 +107,9 @@ impl<'a> State<'a> {
         Ok(self.session.ask(shelf, call)?)
     }
 
-    pub fn finish(self) -> Result<(), Failure> {
+    pub fn into_output(self) -> Output {
         let State { session, shelf: _ } = self;
-        session.finish()
+        session.into_output()
     }
 }
 

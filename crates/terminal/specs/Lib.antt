@@ -2,3 +2,4 @@ pub mod Words
 pub mod Values
 pub mod Options
 pub mod Endings
+pub mod Held

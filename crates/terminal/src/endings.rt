@@ -8,6 +8,8 @@ pub enum Ended {
     Done,
     // The library refused what was asked for, and the refusal is printed.
     Refused,
+    // What it compared differs, and where is printed.
+    Differs,
     // There is no such command, and the user is shown how the program is called.
     Misused,
 }
@@ -19,7 +21,7 @@ impl Ended {
     {
         match self {
             Ended::Done => 0,
-            Ended::Refused | Ended::Misused => 1,
+            Ended::Refused | Ended::Differs | Ended::Misused => 1,
         }
     }
 }

@@ -1,0 +1,6 @@
+pub mod Counts
+pub mod Courses
+pub mod Pages
+pub mod Rooms
+pub mod Same
+pub mod Words

@@ -1,0 +1,4 @@
+pub mod Checked
+pub mod Copied
+pub mod Counts
+pub mod Jobs
