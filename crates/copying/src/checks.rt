@@ -8,7 +8,7 @@ ghost use Rattle.shelf.specs.Outcomes.{ends, well};
 
 use crate::copier::Copier;
 use crate::lists::page_of;
-use document::{Document, legal};
+use document::{Document, Judged, legal};
 use reading::counts_of;
 use shelf::{FacesAlone, Mark, Shelf};
 use std::alloc::{AllocError, Global};
@@ -166,8 +166,11 @@ fn copies_as<S: Shelf>(
 ) -> Result<bool, AllocError>
     ensures { result ≡ Ok true → Copied (S.means shelf.now) file.now 1 pages file.now }
 {
+    let Ok(judged) = Judged::of(file) else {
+        return Ok(false);
+    };
     let mut again = Copier::new(heap)?;
-    let length = match again.copy_pages(shelf, file, 1, pages, heap)? {
+    let length = match again.copy_pages(shelf, &judged, 1, pages, heap)? {
         Ok(length) => length,
         Err(_) => return Ok(false),
     };

@@ -9,6 +9,7 @@ ghost use Rattle.shelf.specs.Laws.{Lawful};
 ghost use Rattle.shelf.specs.Meaning.{Meaning};
 
 use answers::Lists;
+use document::Judged;
 use runs::Run;
 use shelf::{Refusal, Shelf};
 use std::alloc::{AllocError, Global};
@@ -54,14 +55,14 @@ impl Copier {
     pub(crate) fn copy_pages<S: Shelf>(
         &mut self,
         shelf: &S,
-        document: &[u8],
+        document: &Judged<'_>,
         first: usize,
         count: usize,
         heap: Global,
     ) -> Result<Result<usize, Stopped>, AllocError>
-        ensures { IfOk result (λ closed. IfOk closed (λ length. Copied (S.means shelf.now) document.now first count (take length self.new.out.items))) }
+        ensures { IfOk result (λ closed. IfOk closed (λ length. Copied (S.means shelf.now) document.now.bytes.now first count (take length self.new.out.items))) }
     {
-        let mut run = match self.open(shelf, document) {
+        let mut run = match self.open(shelf, document.bytes()) {
             Ok(run) => run,
             Err(refusal) => return Ok(Err(Stopped { page: 0, refusal })),
         };
@@ -100,11 +101,11 @@ impl Copier {
     fn copy_page<S: Shelf>(
         &mut self,
         run: &mut Run<'_, S>,
-        document: &[u8],
+        document: &Judged<'_>,
         page: usize,
         heap: Global,
     ) -> Result<Result<(), Refusal>, AllocError>
-        ensures { (m : Meaning) (o : Opening) (es : List Source) → Course m o es (view_of S.means run.old) self.old.out.items → IfOk result (GoesOn m o es (record { document = document.now; page = page }) (view_of S.means run.new) self.new.out.items) }
+        ensures { (m : Meaning) (o : Opening) (es : List Source) → Course m o es (view_of S.means run.old) self.old.out.items → IfOk result (GoesOn m o es (record { document = document.now.bytes.now; page = page }) (view_of S.means run.new) self.new.out.items) }
     {
         loop {
             let copied = self.try_page(run, document, page);
@@ -122,14 +123,14 @@ impl Copier {
     fn try_page<S: Shelf>(
         &mut self,
         run: &mut Run<'_, S>,
-        document: &[u8],
+        document: &Judged<'_>,
         page: usize,
     ) -> Result<(), Refusal>
-        ensures course { (m : Meaning) (o : Opening) (es : List Source) → Course m o es (view_of S.means run.old) self.old.out.items → GoesOn m o es (record { document = document.now; page = page }) (view_of S.means run.new) self.new.out.items result }
+        ensures course { (m : Meaning) (o : Opening) (es : List Source) → Course m o es (view_of S.means run.old) self.old.out.items → GoesOn m o es (record { document = document.now.bytes.now; page = page }) (view_of S.means run.new) self.new.out.items result }
         ensures marks { length self.new.lists.marks.items ≡ length self.old.lists.marks.items }
         ensures out { length self.new.out.items ≡ length self.old.out.items }
     {
-        run.copy(
+        run.copy_judged(
             document,
             page,
             self.lists.chain.as_mut_slice(),

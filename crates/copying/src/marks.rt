@@ -1,11 +1,11 @@
 // `marks`: shows the marks of a page.
-use crate::lists::{Page, page_of};
+use crate::lists::page_of;
 use answers::{Told, meaning, refused};
 use document::page_place;
-use inspect::{legal_document, show_counts};
+use inspect::{legal_document, show_chain, show_counts};
 use script::Number;
-use shelf::Refusal;
-use stacks::stack_of;
+use shelf::{Refusal, Shelf};
+use stacks::{Task, over_shelf};
 use terminal::{Ended, Failure, Kind, Options, Output};
 
 const KNOWN: [Kind; 2] = [Kind::Tfm, Kind::Rank];
@@ -19,33 +19,52 @@ pub fn show_marks(rt: &HostRuntime, words: &[String]) -> Result<Ended, Failure> 
         return Err(Failure::Told(format!(in heap; "marks: no page number: {page}")?));
     };
     let options = Options::parse("marks", &KNOWN, options, heap)?;
-    let stack = stack_of(rt, &options)?;
-    let (read, stated) = legal_document(rt, file.as_str())?;
-    let bytes = read.as_slice();
-    let Some(place) = page_place(bytes, stated, page) else {
-        return Err(refused(Some(file.as_str()), Refusal::NoPage, heap)?);
-    };
-    let mut out = Output::new(rt);
-    write!(out, "counts");
-    show_counts(bytes, place, &mut out);
-    let ended = show_page(&page_of(&stack, bytes, stated, page, heap)?, &mut out);
-    out.finish()?;
-    Ok(ended)
+    let file = file.as_str();
+    over_shelf(rt, &options, Marks { file, page })
 }
 
-// The marks; or those before a refusal, and why it is refused.
-fn show_page(page: &Page, out: &mut Output) -> Ended {
-    for mark in page.lists.marks_written() {
-        writeln!(out, "{}", Told(*mark));
-    }
-    match &page.answer {
-        Ok(_) => Ended::Done,
-        Err(refusal) => {
-            writeln!(out, "refused {}: {}", refusal.number(), meaning(refusal));
-            for link in page.lists.links_written() {
-                writeln!(out, "{}", Told(*link));
-            }
-            Ended::Refused
+// The marks of a page of a file.
+#[derive(Clone, Copy)]
+struct Marks<'a> {
+    file: &'a str,
+    page: usize,
+}
+
+impl<'a> Task for Marks<'a> {
+    fn over<S: Shelf + Drop>(
+        self,
+        rt: &HostRuntime,
+        options: &Options,
+        shelf: S,
+    ) -> Result<Ended, Failure> {
+        let heap = rt.alloc();
+        let (read, stated) = legal_document(rt, self.file)?;
+        let bytes = read.as_slice();
+        let Some(place) = page_place(bytes, stated, self.page) else {
+            return Err(refused(Some(self.file), Refusal::NoPage, heap)?);
+        };
+        let page = page_of(&shelf, bytes, stated, self.page, heap)?;
+        let mut out = Output::new(rt);
+        write!(out, "counts");
+        show_counts(bytes, place, &mut out);
+        for mark in page.lists.marks_written() {
+            writeln!(out, "{}", Told(*mark));
         }
+        // Behind the marks that were made before a refusal, why it is refused.
+        let ended = match &page.answer {
+            Ok(_) => Ended::Done,
+            Err(refusal) => {
+                writeln!(out, "refused {}: {}", refusal.number(), meaning(refusal));
+                show_chain(
+                    page.lists.links_written(),
+                    options,
+                    Some(self.file),
+                    &mut out,
+                );
+                Ended::Refused
+            }
+        };
+        out.finish()?;
+        Ok(ended)
     }
 }

@@ -51,7 +51,8 @@ fn fair_to(entries: Entries<'_>) -> usize
 }
 
 // Where one of the N numbers from `lo` on is first used again; the end where none is. Not one function with `fair_to`,
-// since each command is written into the table here.
+// since each command is written into the table here. Never inlined, so that its stack is used only where a table is needed.
+#[inline(never)]
 fn window<const N: usize>(entries: Entries<'_>, lo: usize) -> usize
     requires { N < 2 ^ 63 }
     ensures { result ≡ stop_at (again entries.entry.front.now lo (Some (lo + N))) entries.entry.front.now entries.entry.at entries.entry.to }

@@ -3,7 +3,7 @@ use crate::asking::{Answer, ask};
 use crate::chains::show_chain;
 use answers::{Told, meaning};
 use shelf::{Asked, Shelf};
-use stacks::stack_of;
+use stacks::{Task, over_shelf};
 use terminal::{Ended, Failure, Kind, Options, Output};
 
 const KNOWN: [Kind; 6] = [
@@ -22,20 +22,40 @@ pub fn show_character(rt: &HostRuntime, words: &[String]) -> Result<Ended, Failu
     let size = options.needed(options.size, Kind::Size, heap)?;
     let code = options.needed(options.code, Kind::Code, heap)?;
     let (h, v) = options.at.unwrap_or((0, 0));
-    let stack = stack_of(rt, &options)?;
-    let Some(font) = stack.find(name.as_bytes()) else {
-        return Err(Failure::Told(format!(in heap;
-            "character: no font on the shelf has the name {name}"
-        )?));
-    };
     let asked = Asked {
-        font,
+        font: 0,
         size,
         code,
         h,
         v,
     };
-    show(rt, &options, &ask(&stack, asked, heap)?)
+    over_shelf(rt, &options, Character { name, asked })
+}
+
+// A character of the font that bears a name.
+#[derive(Drop)]
+struct Character<'a> {
+    name: &'a str,
+    asked: Asked,
+}
+
+impl<'a> Task for Character<'a> {
+    fn over<S: Shelf + Drop>(
+        self,
+        rt: &HostRuntime,
+        options: &Options,
+        shelf: S,
+    ) -> Result<Ended, Failure> {
+        let heap = rt.alloc();
+        let name = self.name;
+        let Some(font) = shelf.find(name.as_bytes()) else {
+            return Err(Failure::Told(format!(in heap;
+                "character: no font on the shelf has the name {name}"
+            )?));
+        };
+        let asked = Asked { font, ..self.asked };
+        show(rt, options, &ask(&shelf, asked, heap)?)
+    }
 }
 
 // The marks, and behind them the width; or the refusal and its chain, with the marks that were made before it.

@@ -94,7 +94,9 @@ fn read_at<S: Shelf>(
     }
 }
 
-// A page whose fonts are found in a table of room for N. A fixed table, since calls of the library allocate nothing.
+// A page whose fonts are found in a table of room for N. A fixed table, since calls of the library allocate nothing; never
+// inlined, so that its stack is used only where a table is needed.
+#[inline(never)]
 fn run_sorted<const N: usize, S: Shelf>(
     document: &[u8],
     stated: Document,

@@ -1,2 +1,1 @@
-mod Empty
 mod Numbered

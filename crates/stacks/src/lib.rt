@@ -7,4 +7,4 @@ mod ranks;
 
 pub use faces::faces_of;
 pub use fonts::font_of;
-pub use ranks::{Stack, stack_of};
+pub use ranks::{Task, over_shelf};

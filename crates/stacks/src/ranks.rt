@@ -1,60 +1,74 @@
 // Ranks made from the VF files that the command line names, on the faces.
-ghost use Rattle.std.specs.Prelude.{◌≡◌, IfOk, OnOk, Ok};
+ghost use Rattle.std.specs.Prelude.{◌≡◌, OnOk, Ok};
 ghost use Rattle.rank.specs.Adding.{added};
 ghost use Rattle.rank.specs.Held.{files_of};
-ghost use Rattle.rank.specs.Ranks.{rank_of};
-ghost use Rattle.stacks.specs.Alike.{Alike};
 
 use crate::faces::faces_of;
 use answers::refused;
 use rank::Rank;
 use shelf::Shelf;
-use std::alloc::{AllocError, Global};
-use terminal::{Failure, Font, Options};
-use tfm::TfmShelf;
+use terminal::{Ended, Failure, Font, Options};
 
-// As many ranks as there can be, so that every command line has a shelf of one type. A rank to which no file is added is
-// as if it were not there.
-pub type Stack = Rank<Rank<Rank<Rank<TfmShelf>>>>;
-
-pub fn stack_of(rt: &HostRuntime, options: &Options) -> Result<Stack, Failure> {
-    let ranks = options.ranks.as_slice();
-    let faces = faces_of(rt, options.fonts.as_slice())?;
-    let first = ranked(rt, faces, ranks.get(0))?;
-    let second = ranked(rt, first, ranks.get(1))?;
-    let third = ranked(rt, second, ranks.get(2))?;
-    ranked(rt, third, ranks.get(3))
+// What a command does over the shelf of its command line, whatever the type of that is.
+pub trait Task {
+    fn over<S: Shelf + Drop>(
+        self,
+        rt: &HostRuntime,
+        options: &Options,
+        shelf: S,
+    ) -> Result<Ended, Failure>;
 }
 
-// A rank with these files, or with none. The first that is refused is told of.
+// Does a task over the faces and the ranks that are named, at most four. Each number of ranks is a type of its own, so that
+// no character is asked for through ranks that are not there.
+pub fn over_shelf<T: Task + Drop>(
+    rt: &HostRuntime,
+    options: &Options,
+    task: T,
+) -> Result<Ended, Failure> {
+    let faces = faces_of(rt, options.fonts.as_slice())?;
+    match options.ranks.as_slice() {
+        [] => task.over(rt, options, faces),
+        [a] => task.over(rt, options, ranked(rt, faces, a)?),
+        [a, b] => task.over(rt, options, ranked(rt, ranked(rt, faces, a)?, b)?),
+        [a, b, c] => task.over(
+            rt,
+            options,
+            ranked(rt, ranked(rt, ranked(rt, faces, a)?, b)?, c)?,
+        ),
+        [a, b, c, d, ..] => {
+            let three = ranked(rt, ranked(rt, ranked(rt, faces, a)?, b)?, c)?;
+            task.over(rt, options, ranked(rt, three, d)?)
+        }
+    }
+}
+
+// A rank with these files. The first that is refused is told of.
 fn ranked<S: Shelf + Drop>(
     rt: &HostRuntime,
     below: S,
-    fonts: Option<&Vec<Font>>,
+    fonts: &Vec<Font>,
 ) -> Result<Rank<S>, Failure> {
-    let heap = rt.alloc();
-    let mut rank = empty(below, heap)?;
-    if let Some(fonts) = fonts {
-        for font in fonts.as_slice() {
-            let file = terminal::read(rt, font.file)?;
-            add(&mut rank, font, file.as_slice(), heap)?;
-        }
+    let mut rank = Rank::new(below, rt.alloc())?;
+    for font in fonts.as_slice() {
+        let file = terminal::read(rt, font.file)?;
+        add(rt, &mut rank, font, file.as_slice())?;
     }
     Ok(rank)
 }
 
-// A rank without files, which means what is below it.
-#[tactic(auto, using(crate::proofs::Empty::empty_rank))]
-fn empty<S: Shelf + Drop>(below: S, heap: Global) -> Result<Rank<S>, AllocError>
-    ensures { IfOk result (λ r. Alike (rank_of (S.means r.below) (files_of r)) (S.means below)) }
-{
-    Rank::new(below, heap)
-}
-
-fn add<S: Shelf>(rank: &mut Rank<S>, font: &Font, file: &[u8], heap: Global) -> Result<(), Failure>
+fn add<S: Shelf>(
+    rt: &HostRuntime,
+    rank: &mut Rank<S>,
+    font: &Font,
+    file: &[u8],
+) -> Result<(), Failure>
     ensures added { OnOk result ((files_of rank.new, Ok tt) ≡ added (S.means rank.old.below) (files_of rank.old) font.now.name.now file.now) }
     ensures below { rank.new.below ≡ rank.old.below }
 {
-    rank.add(font.name.as_bytes(), file)
-        .try_map_err(|refusal| Ok(refused(Some(font.file), refusal, heap)?))
+    rank.add(font.name.as_bytes(), file).try_map_err(|refusal| Ok(refused(
+        Some(font.file),
+        refusal,
+        rt.alloc(),
+    )?))
 }
