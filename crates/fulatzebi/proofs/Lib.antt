@@ -1,0 +1,4 @@
+pub mod Counts
+pub mod Fills
+pub mod Overlays
+pub mod Stacks

@@ -1,0 +1,5 @@
+pub mod Answers
+pub mod Facts
+pub mod Layers
+pub mod Records
+pub mod Served
