@@ -3,6 +3,7 @@
 
 mod answering;
 mod facts;
+mod flattening;
 mod layers;
 mod lists;
 mod records;

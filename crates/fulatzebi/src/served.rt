@@ -1,9 +1,9 @@
 // A page read over a shelf into the caller's lists of records.
-ghost use Rattle.std.specs.Prelude.{◌≡◌, IfOk, replicate, take};
+ghost use Rattle.std.specs.Prelude.{◌≡◌, IfOk, length, replicate, take};
 ghost use Rattle.std.specs.Option.{unwrap_or};
 ghost use Rattle.shelf.specs.Refusals.{returned};
 ghost use Rattle.reading.specs.Reading.{reading};
-ghost use Rattle.fulatzebi.specs.Served.{Told, is_filler, link_filler, made, mark_filler};
+ghost use Rattle.fulatzebi.specs.Served.{Read, Told, is_filler, link_filler, made, mark_filler};
 
 use crate::lists::{put_links, put_marks};
 use crate::records::{Answer, LinkRecord, MarkRecord};
@@ -27,6 +27,11 @@ const LINK_FILLER: Link = Link {
     place: 0,
 };
 
+pub(crate) const NO_MEMORY: Stop = Stop {
+    step: Step::Call,
+    why: Why::NoMemory,
+};
+
 // The page's marks and a fault's chain, at the front of the caller's lists. The library fills lists of its own kind, with as
 // many entries as the caller's have.
 pub(crate) fn read_over<S: Shelf>(
@@ -40,30 +45,45 @@ pub(crate) fn read_over<S: Shelf>(
     ensures { Told (reading (S.means shelf.now) document.now page) links.old links.new marks.old marks.new result }
 {
     match (no_links(links.len(), heap), no_marks(marks.len(), heap)) {
-        (Ok(mut chain), Ok(mut list)) => {
-            let answer = read(
-                document,
-                page,
-                shelf,
-                chain.as_mut_slice(),
-                list.as_mut_slice(),
-            );
-            let written = made(list.as_slice());
-            put_marks(written, marks);
-            match answer {
-                Ok(n) => Answer::accepted(n, 0),
-                Err(refusal) => {
-                    put_links(written_links(refusal, chain.as_slice()), links);
-                    let stop = Step::Page { index: 0 }.refused(refusal);
-                    Answer::refused(stop, written.len())
-                }
-            }
-        }
+        (Ok(mut chain), Ok(mut list)) => read_into(
+            shelf,
+            document,
+            page,
+            chain.as_mut_slice(),
+            list.as_mut_slice(),
+            links,
+            marks,
+        ),
         _ => Answer::refused(NO_MEMORY, 0),
     }
 }
 
-const NO_MEMORY: Stop = Stop { step: Step::Call, why: Why::NoMemory };
+// The same by way of fresh lists.
+fn read_into<S: Shelf>(
+    shelf: &S,
+    document: &[u8],
+    page: usize,
+    chain: &mut [Link],
+    list: &mut [Mark],
+    links: &mut [LinkRecord],
+    marks: &mut [MarkRecord],
+) -> Answer
+    requires chain { chain.old ≡ replicate (length links.old) link_filler }
+    requires marks { list.old ≡ replicate (length marks.old) mark_filler }
+    ensures { Read (reading (S.means shelf.now) document.now page) links.old links.new marks.old marks.new result }
+{
+    let answer = read(document, page, shelf, chain, list);
+    let written = made(list);
+    put_marks(written, marks);
+    match answer {
+        Ok(n) => Answer::accepted(n, 0),
+        Err(refusal) => {
+            put_links(written_links(refusal, chain), links);
+            let stop = Step::Page { index: 0 }.refused(refusal);
+            Answer::refused(stop, written.len())
+        }
+    }
+}
 
 pub(crate) fn no_marks(n: usize, heap: Global) -> Result<Vec<Mark>, AllocError>
     ensures { IfOk result (λ v. v.items ≡ replicate n mark_filler) }

@@ -1,0 +1,51 @@
+-- What a call leaves in fresh lists, and what of it is handed on. Assumes nothing.
+use Rattle.std.proofs.Common.{◌≡◌, ℕ, zero, suc, ◌-◌, ◌<◌, ◌≤◌, min, Bool, true, false, cond, List, [], ◌∷◌, map, length, take, replicate, Some, None, Ok, Err, Option, Result, sym, refl, ap, subst, ◌∙◌, one-add, arith}
+use Rattle.std.specs.Prelude.{nat_le, nat_lt, ◌==◌}
+use Rattle.std.specs.Option.{option_map, ok_or, unwrap_or}
+use Rattle.std.specs.Result.{result_and}
+use Rattle.std.specs.List.{AllByRecursion, position_or_len}
+use Rattle.std.proofs.lemmas.Bool.{ltb-false}
+use Rattle.shelf.specs.declared.marks.Link.{Link}
+use Rattle.shelf.specs.declared.marks.Mark.{Mark}
+use Rattle.shelf.specs.declared.marks.Mark.TheVariants.{Glyph, Rule}
+use Rattle.shelf.specs.declared.refusals.Refusal.{Refusal}
+use Rattle.shelf.specs.declared.refusals.Refusal.TheVariants.{NoPage, MarksFull, Fault}
+use Rattle.shelf.specs.Answers.{Answered, answer, chain_of, ended, linked, overlay}
+use Rattle.shelf.specs.Laws.{GoodMark, Lawful}
+use Rattle.shelf.specs.Meaning.{Meaning, FaceMeaning}
+use Rattle.shelf.specs.Outcomes.{Outcome, Ending, well, fault}
+use Rattle.shelf.specs.Refusals.{returned}
+use Rattle.fulatzebi.specs.declared.records.LinkRecord.{LinkRecord}
+use Rattle.fulatzebi.specs.declared.records.MarkRecord.{MarkRecord}
+use Rattle.fulatzebi.specs.Records.{link_record, mark_record}
+use Rattle.fulatzebi.specs.Served.{is_filler, link_filler, links_left, made, mark_filler}
+use Rattle.fulatzebi.proofs.Overlays.{put_all}
+
+-- no shelf makes a filler
+abbrev pub Real : List Mark → Type 0
+Real ms = AllByRecursion (λ x. is_filler x ≡ false) ms
+
+real_mark : (fs : List FaceMeaning) (x : Mark) → GoodMark fs x → is_filler x ≡ false
+real_mark fs (Glyph face size code h v) g = refl
+real_mark fs (Rule zero width h v) g = absurd (omega (arith, g.2.0))
+real_mark fs (Rule (suc n) width h v) g = grind arith
+
+pub real_marks : (fs : List FaceMeaning) (ms : List Mark) → AllByRecursion (GoodMark fs) ms → Real ms
+real_marks fs [] g = tt
+real_marks fs (x ∷ ms) g = (real_mark fs x g.0, real_marks fs ms g.1)
+
+made_more : (x : Mark) (ms : List Mark) → is_filler x ≡ false → made (x ∷ ms) ≡ x ∷ made ms
+made_more x ms e = rw (e, one-add) refl
+
+-- the marks of a call are those before the first filler
+pub made_fresh : (ms : List Mark) (n : ℕ) → Real ms → made (overlay ms (replicate n mark_filler)) ≡ take n ms
+made_fresh [] zero r = refl
+made_fresh [] (suc n) r = refl
+made_fresh (x ∷ ms) zero r = refl
+made_fresh (x ∷ ms) (suc n) r = made_more x (overlay ms (replicate n mark_filler)) r.0 ∙ ap (λ zs. x ∷ zs) (made_fresh ms n r.1)
+
+-- a chain of a known length, taken back from a fresh list
+pub linked_fresh : (ch : List Link) (links : List LinkRecord) → overlay (map link_record (take (length ch) (overlay ch (replicate (length links) link_filler)))) links ≡ overlay (map link_record ch) links
+linked_fresh [] links = refl
+linked_fresh (l ∷ ch) [] = refl
+linked_fresh (l ∷ ch) (x ∷ links) = ap (λ zs. link_record l ∷ zs) (linked_fresh ch links)
