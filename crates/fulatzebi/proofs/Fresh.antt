@@ -44,8 +44,10 @@ made_fresh [] (suc n) r = refl
 made_fresh (x ∷ ms) zero r = refl
 made_fresh (x ∷ ms) (suc n) r = made_more x (overlay ms (replicate n mark_filler)) r.0 ∙ ap (λ zs. x ∷ zs) (made_fresh ms n r.1)
 
--- a chain of a known length, taken back from a fresh list
-pub linked_fresh : (ch : List Link) (links : List LinkRecord) → overlay (map link_record (take (length ch) (overlay ch (replicate (length links) link_filler)))) links ≡ overlay (map link_record ch) links
-linked_fresh [] links = refl
-linked_fresh (l ∷ ch) [] = refl
-linked_fresh (l ∷ ch) (x ∷ links) = ap (λ zs. link_record l ∷ zs) (linked_fresh ch links)
+-- a chain that was written over the front of a list as long as the caller's is handed on whole
+pub linked_back : (ch : List Link) (links : List LinkRecord) (chain : List Link) → length chain ≡ length links → overlay (map link_record (take (length ch) (overlay ch chain))) links ≡ overlay (map link_record ch) links
+linked_back [] links chain h = refl
+linked_back (l ∷ ch) [] [] h = refl
+linked_back (l ∷ ch) [] (y ∷ chain) h = absurd (omega (arith, h))
+linked_back (l ∷ ch) (x ∷ links) [] h = absurd (omega (arith, h))
+linked_back (l ∷ ch) (x ∷ links) (y ∷ chain) h = ap (λ zs. link_record l ∷ zs) (linked_back ch links chain (omega (arith, h)))

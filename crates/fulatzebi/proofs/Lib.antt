@@ -1,7 +1,9 @@
+pub mod Copying
 pub mod Counts
 pub mod Fills
 pub mod Fresh
 pub mod Linkless
 pub mod Overlays
+pub mod Sourcing
 pub mod Stacks
 pub mod Telling

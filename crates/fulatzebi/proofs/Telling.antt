@@ -19,7 +19,7 @@ use Rattle.fulatzebi.specs.declared.records.MarkRecord.{MarkRecord}
 use Rattle.fulatzebi.specs.Records.{link_record, mark_record}
 use Rattle.fulatzebi.specs.Answers.{accepted, refused}
 use Rattle.fulatzebi.specs.Served.{Read, answered_by, ended_by, link_filler, links_left, made, mark_filler, marks_left, page_stop}
-use Rattle.fulatzebi.proofs.Fresh.{Real, linked_fresh, made_fresh}
+use Rattle.fulatzebi.proofs.Fresh.{Real, linked_back, made_fresh}
 use Rattle.fulatzebi.proofs.Linkless.{Linkless}
 use Rattle.fulatzebi.proofs.Overlays.{put_all}
 
@@ -28,29 +28,26 @@ abbrev pub passed : {X : Type 0} → Result X Refusal → List Link → List Lin
 passed (Ok x) chain links = links
 passed (Err e) chain links = overlay (map link_record (take (unwrap_or (returned e).links 0) chain)) links
 
-module _ (links : List LinkRecord) where
-  abbrev fresh : List Link
-  fresh = replicate (length links) link_filler
+module _ (links : List LinkRecord) (chain : List Link) (long : length chain ≡ length links) where
+  none_passed : {X : Type 0} (r : Result X Refusal) (chain' : List Link) → Linkless r → passed r chain' links ≡ links
+  none_passed (Ok x) chain' l = refl
+  none_passed (Err e) chain' l = ap (λ n. overlay (map link_record (take (unwrap_or n 0) chain')) links) l
 
-  none_passed : {X : Type 0} (r : Result X Refusal) (chain : List Link) → Linkless r → passed r chain links ≡ links
-  none_passed (Ok x) chain l = refl
-  none_passed (Err e) chain l = ap (λ n. overlay (map link_record (take (unwrap_or n 0) chain)) links) l
-
-  ended_passed : {W : Type 0} (n : ℕ) (e : Ending W) → passed (ended n e) (overlay (chain_of e) fresh) links ≡ overlay (map link_record (chain_of e)) links
+  ended_passed : {W : Type 0} (n : ℕ) (e : Ending W) → passed (ended n e) (overlay (chain_of e) chain) links ≡ overlay (map link_record (chain_of e)) links
   ended_passed n (well w) = refl
-  ended_passed n (fault k ch) = linked_fresh ch links
+  ended_passed n (fault k ch) = linked_back ch links chain long
 
-  pub outcome_passed : {W : Type 0} (o : Outcome W) (room : ℕ) → passed (answer o room) (linked o room fresh) links ≡ cond (nat_le (length o.marks) room) (overlay (map link_record (chain_of o.ending)) links) links
+  pub outcome_passed : {W : Type 0} (o : Outcome W) (room : ℕ) → passed (answer o room) (linked o room chain) links ≡ cond (nat_le (length o.marks) room) (overlay (map link_record (chain_of o.ending)) links) links
   unfolding answer linked
   outcome_passed {W} o room = by (nat_le (length o.marks) room)
     where
-      by : (b : Bool) → passed {X = ℕ × W} (cond b (ended (length o.marks) o.ending) (Err MarksFull)) (cond b (overlay (chain_of o.ending) fresh) fresh) links ≡ cond b (overlay (map link_record (chain_of o.ending)) links) links
+      by : (b : Bool) → passed {X = ℕ × W} (cond b (ended (length o.marks) o.ending) (Err MarksFull)) (cond b (overlay (chain_of o.ending) chain) chain) links ≡ cond b (overlay (map link_record (chain_of o.ending)) links) links
       by true = ended_passed (length o.marks) o.ending
       by false = refl
 
   -- the chain list, whatever was read
-  pub all_passed : {W : Type 0} (r : Result (Outcome W) Refusal) (a : Result (ℕ × W) Refusal) (chain' : List Link) (marks marks' : List Mark) → Linkless r → Served r fresh chain' marks marks' a → passed a chain' links ≡ links_left r (length marks) links
-  all_passed {W} (Err e) a chain' marks marks' l s = rw (s.0, s.1) (none_passed {X = ℕ × W} (Err e) fresh l)
+  pub all_passed : {W : Type 0} (r : Result (Outcome W) Refusal) (a : Result (ℕ × W) Refusal) (chain' : List Link) (marks marks' : List Mark) → Linkless r → Served r chain chain' marks marks' a → passed a chain' links ≡ links_left r (length marks) links
+  all_passed {W} (Err e) a chain' marks marks' l s = rw (s.0, s.1) (none_passed {X = ℕ × W} (Err e) chain l)
   all_passed (Ok o) a chain' marks marks' l s = rw (s.answered, s.chained) (outcome_passed o (length marks))
 
 -- the marks, whatever was read
@@ -91,5 +88,5 @@ module _ (r : Result (Outcome (Unit {0})) Refusal) (l : Linkless r) (g : (o : Ou
       record {
         answered = t ∙ ap (λ x. told_by a (length x)) e ∙ answered a _ chain' list' s2;
         marked = m ∙ ap (λ x. overlay (map mark_record x) marks) e ∙ all_made r (counted a) _ chain' list' marks g s2;
-        linked = n ∙ all_passed links r (counted a) chain' _ list' l s2 ∙ ap (λ k. links_left r k links) (length-replicate (length marks) mark_filler);
+        linked = n ∙ all_passed links _ (length-replicate (length links) link_filler) r (counted a) chain' _ list' l s2 ∙ ap (λ k. links_left r k links) (length-replicate (length marks) mark_filler);
       }

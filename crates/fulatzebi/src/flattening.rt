@@ -1,6 +1,5 @@
 // Pages of documents copied into one flat file.
-ghost use Rattle.std.specs.Prelude.{◌≡◌, ◌⊎◌, IfOk, length, replicate};
-ghost use Rattle.fulatzebi.specs.Served.{link_filler};
+ghost use Rattle.std.specs.Prelude.{◌≡◌, ◌⊎◌, IfOk, length};
 ghost use Rattle.fulatzebi.specs.Flat.{Flat, all_pages, flat, lacking};
 
 use crate::layers::bytes_at;
@@ -55,8 +54,8 @@ fn copy_by<S: Shelf>(
     links: &mut [LinkRecord],
     out: &mut [u8],
 ) -> Answer
-    requires chain { chain.old ≡ replicate (length links.old) link_filler }
-    requires marks { length list.old ≡ order.entry.marks }
+    requires chain { length chain.old ≡ length links.old }
+    requires marks { length list.old ≡ order.marks }
     ensures { record { answer = result; links = links.new; out = out.new } ≡ flat (S.means shelf.now) order.entry.opening.now order.entry.documents.now order.entry.sources.now order.entry.marks links.old out.old }
 {
     let mut run = match Run::open(shelf, order.opening, out) {
@@ -91,11 +90,14 @@ pub(crate) fn all_pages(document: &[u8], heap: Global) -> Result<Vec<SourceRecor
     ensures { IfOk result (λ v. v.items ≡ all_pages document.now) }
 {
     let pages = legal(document).map_or(0, |stated| usize::from(stated.pages));
-    (0..pages)
-        .map(|k| SourceRecord {
+    let mut sources = Vec::new(heap);
+    // A loop, since what `map` and `collect` make of a range has no word of its own.
+    for k in 0..pages {
+        sources.push(SourceRecord {
             place: 0,
             length: document.len(),
             page: k + 1,
-        })
-        .collect(heap)
+        })?;
+    }
+    Ok(sources)
 }
