@@ -1,5 +1,5 @@
 -- Every page of a document, one after the other. Assumes nothing.
-use Rattle.std.proofs.Common.{◌≡◌, ℕ, zero, suc, ◌+◌, ◌-◌, ◌<◌, ◌≤◌, List, [], ◌∷◌, ◌++◌, sym, refl, ap, ◌∙◌, arith, append-nil, append-assoc}
+use Rattle.std.proofs.Common.{◌≡◌, ℕ, zero, suc, ◌+◌, ◌-◌, ◌<◌, ◌≤◌, List, [], ◌∷◌, ◌++◌, sym, refl, ap, ◌∙◌, arith, append-nil, append_assoc}
 use Rattle.fulatzebi.specs.declared.records.SourceRecord.{SourceRecord}
 use Rattle.fulatzebi.specs.Flat.{pages_from}
 
@@ -9,7 +9,7 @@ module _ (n pages : ℕ) where
 
   more : (k left : ℕ) (ss : List SourceRecord) → left ≡ suc (left - 1) → ss ++ pages_from n k left ≡ (ss ++ record { place = 0; length = n; page = k + 1 } ∷ []) ++ pages_from n (k + 1) (left - 1)
   unfolding pages_from
-  more k left ss e = ap (λ x. ss ++ pages_from n k x) e ∙ sym (append-assoc ss (record { place = 0; length = n; page = k + 1 } ∷ []) (pages_from n (k + 1) (left - 1)))
+  more k left ss e = ap (λ x. ss ++ pages_from n k x) e ∙ sym (append_assoc ss (record { place = 0; length = n; page = k + 1 } ∷ []) (pages_from n (k + 1) (left - 1)))
 
   pub one_more : (k : ℕ) (ss ss' : List SourceRecord) → k < pages → ss' ≡ ss ++ record { place = 0; length = n; page = k + 1 } ∷ [] → SoFar k ss → SoFar (k + 1) ss'
   one_more k ss ss' l e s =

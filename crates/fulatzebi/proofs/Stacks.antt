@@ -1,11 +1,12 @@
 -- One rank after the other. Assumes nothing.
-use Rattle.std.proofs.Common.{◌≡◌, ℕ, Bool, true, List, Ok, Err, Result, ap, ◌∙◌, cond, sym}
-use Rattle.std.specs.Prelude.{◌≢◌, IfOk, IfErr}
+use Rattle.std.proofs.Common.{◌≡◌, ℕ, Bool, true, List, Ok, Err, Result, ap, ◌∙◌, cond, sym, inl, inr}
+use Rattle.std.specs.Prelude.{◌⊎◌, IfOk, IfErr}
 use Rattle.shelf.specs.Meaning.{Meaning}
 use Rattle.fulatzebi.specs.declared.records.FontRecord.{FontRecord}
 use Rattle.fulatzebi.specs.declared.stops.Step.TheVariants.{Call}
 use Rattle.fulatzebi.specs.declared.stops.Stop.{Stop}
-use Rattle.fulatzebi.specs.declared.stops.Why.TheVariants.{BadRecord, NoMemory}
+use Rattle.fulatzebi.specs.declared.stops.Why.TheVariants.{BadRecord}
+use Rattle.fulatzebi.specs.Answers.{no_memory}
 use Rattle.fulatzebi.specs.Layers.{above, faces_meaning, known, laid, shelf_of}
 
 module _ (bytes : List ℕ) (fs : List FontRecord) (k : known fs ≡ true) (m0 m1 m2 m3 : Meaning)
@@ -23,6 +24,7 @@ module _ (bytes : List ℕ) (fs : List FontRecord) (k : known fs ≡ true) (m0 m
   all_laid means (Ok s) p = last (Ok (means s)) p
   all_laid means (Err s) p = tt
 
-  pub last_refused : {X : Type 0} (r : Result X Stop) → IfErr r (λ s. s.why ≢ NoMemory → Err s ≡ laid bytes fs 4 m3) → IfErr r (λ s. s.why ≢ NoMemory → Err s ≡ shelf_of bytes fs)
+  pub last_refused : {X : Type 0} (r : Result X Stop) → IfErr r (λ s. (s ≡ no_memory) ⊎ (Err s ≡ laid bytes fs 4 m3)) → IfErr r (λ s. (s ≡ no_memory) ⊎ (Err s ≡ shelf_of bytes fs))
   last_refused (Ok s) p = tt
-  last_refused (Err s) p = λ n. last (Err s) (p n)
+  last_refused (Err s) (inl p) = inl p
+  last_refused (Err s) (inr p) = inr (last (Err s) p)

@@ -46,6 +46,10 @@ step_index Document = 0
 step_index (Page index) = index
 step_index Closing = 0
 
+-- want of memory
+abbrev pub no_memory : Stop
+no_memory = record { step = Call; why = NoMemory }
+
 -- accepted, with the marks made and the length of the file
 abbrev pub accepted : ℕ → ℕ → Answer
 accepted marks length = record { number = 0; step = 0; rank = 0; index = 0; value = 0; links = 0; marks = marks; length = length }

@@ -16,10 +16,9 @@ use Rattle.fulatzebi.specs.declared.stops.Step.{Step}
 use Rattle.fulatzebi.specs.declared.stops.Step.TheVariants.{Document as Opening, Page, Closing}
 use Rattle.fulatzebi.specs.declared.stops.Stop.{Stop}
 use Rattle.fulatzebi.specs.declared.stops.Why.TheVariants.{BadRecord, Refused}
-use Rattle.fulatzebi.specs.Answers.{accepted, refused}
+use Rattle.fulatzebi.specs.Answers.{accepted, no_memory, refused}
 use Rattle.fulatzebi.specs.Layers.{bytes_in}
 use Rattle.fulatzebi.specs.Records.{link_record}
-use Rattle.fulatzebi.specs.Served.{no_memory}
 
 -- what is answered, and what is left in the caller's chain list and output
 pub record Flat : Type 0 where
@@ -78,9 +77,13 @@ unfoldable pub pages_from : ℕ → ℕ → ℕ → List SourceRecord
 pages_from length k zero = []
 pages_from length k (suc n) = record { place = 0; length = length; page = k + 1 } ∷ pages_from length (k + 1) n
 
-abbrev pub pages_by : ℕ → Result Document Refusal → List SourceRecord
-pages_by length (Ok d) = pages_from length 0 d.pages
-pages_by length (Err e) = []
+abbrev pub count_by : Result Document Refusal → ℕ
+count_by (Ok d) = d.pages
+count_by (Err e) = 0
+
+-- how many pages a document has; none where it is not legal
+abbrev pub page_count : List ℕ → ℕ
+page_count document = count_by (legal document)
 
 abbrev pub all_pages : List ℕ → List SourceRecord
-all_pages document = pages_by (length document) (legal document)
+all_pages document = pages_from (length document) 0 (page_count document)

@@ -1,5 +1,5 @@
 -- What the shelf of a bundle means, or what of the bundle is refused.
-use Rattle.std.specs.Prelude.{◌≡◌, ◌≢◌, ℕ, ◌+◌, Bool, cond, ◌&&◌, List, [], ◌∷◌, map, length, Some, None, Ok, Err, Option, Result, nat_le, ◌==◌, vec_items}
+use Rattle.std.specs.Prelude.{◌≡◌, ◌⊎◌, ℕ, ◌+◌, Bool, cond, ◌&&◌, List, [], ◌∷◌, map, length, Some, None, Ok, Err, Option, Result, nat_le, ◌==◌, vec_items}
 use Rattle.std.specs.Option.{unwrap_or}
 use Rattle.std.specs.List.{filter, list_all}
 use Rattle.shelf.specs.declared.refusals.Refusal.{Refusal}
@@ -19,7 +19,8 @@ use Rattle.fulatzebi.specs.declared.records.FontRecord.{FontRecord}
 use Rattle.fulatzebi.specs.declared.stops.Step.TheVariants.{Call, Font}
 use Rattle.fulatzebi.specs.declared.stops.Stop.{Stop}
 use Rattle.fulatzebi.specs.declared.stops.Why.{Why}
-use Rattle.fulatzebi.specs.declared.stops.Why.TheVariants.{Refused, NoMemory, BadRecord}
+use Rattle.fulatzebi.specs.declared.stops.Why.TheVariants.{Refused, BadRecord}
+use Rattle.fulatzebi.specs.Answers.{no_memory}
 
 -- every rank is 0 to 4
 abbrev pub known : List FontRecord → Bool
@@ -38,7 +39,7 @@ tfm_stop e = record { step = Font 0 (unwrap_or (returned e).value 0); why = Refu
 
 abbrev pub stop_of : NotMade → Stop
 stop_of (NotTaken e) = tfm_stop e
-stop_of (NoRoom e) = record { step = Call; why = NoMemory }
+stop_of (NoRoom e) = no_memory
 
 -- what the faces mean
 abbrev pub faces_by : List ℕ → Result (List Outline) Refusal → Result Meaning Stop
@@ -53,7 +54,7 @@ tfm_means s = tfm_meaning (vec_items s.bytes) (map outline_of (vec_items s.faces
 
 abbrev pub Faced : List ℕ → List FontRecord → Result TfmShelf Stop → Type 0
 Faced bytes fs (Ok s) = Ok (tfm_means s) ≡ faces_meaning bytes fs
-Faced bytes fs (Err s) = s.why ≢ NoMemory → Err s ≡ faces_meaning bytes fs
+Faced bytes fs (Err s) = (s ≡ no_memory) ⊎ (Err s ≡ faces_meaning bytes fs)
 
 -- the n bytes from a place on; none where they reach outside
 abbrev pub bytes_in : List ℕ → ℕ → ℕ → Option (List ℕ)

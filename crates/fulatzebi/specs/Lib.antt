@@ -1,4 +1,5 @@
 pub mod Answers
+pub mod Calls
 pub mod Facts
 pub mod Flat
 pub mod Layers

@@ -10,10 +10,10 @@ use Rattle.shelf.specs.Outcomes.{Outcome}
 use Rattle.fulatzebi.specs.declared.records.Answer.{Answer}
 use Rattle.fulatzebi.specs.declared.records.LinkRecord.{LinkRecord}
 use Rattle.fulatzebi.specs.declared.records.MarkRecord.{MarkRecord}
-use Rattle.fulatzebi.specs.declared.stops.Step.TheVariants.{Call, Page}
+use Rattle.fulatzebi.specs.declared.stops.Step.TheVariants.{Page}
 use Rattle.fulatzebi.specs.declared.stops.Stop.{Stop}
-use Rattle.fulatzebi.specs.declared.stops.Why.TheVariants.{NoMemory, Refused}
-use Rattle.fulatzebi.specs.Answers.{accepted, refused}
+use Rattle.fulatzebi.specs.declared.stops.Why.TheVariants.{Refused}
+use Rattle.fulatzebi.specs.Answers.{accepted, no_memory, refused}
 use Rattle.fulatzebi.specs.Records.{link_record, mark_record}
 
 -- what a fresh list holds
@@ -30,10 +30,6 @@ is_filler (Glyph face size code h v) = false
 -- the marks before the first filler
 abbrev pub made : List Mark → List Mark
 made ms = take (position_or_len is_filler ms) ms
-
--- want of memory
-abbrev pub no_memory : Stop
-no_memory = record { step = Call; why = NoMemory }
 
 -- a page of a call, refused
 abbrev pub page_stop : ℕ → Refusal → Stop

@@ -1,6 +1,6 @@
 // Pages of documents copied into one flat file.
 ghost use Rattle.std.specs.Prelude.{◌≡◌, ◌⊎◌, IfOk, length};
-ghost use Rattle.fulatzebi.specs.Flat.{Flat, all_pages, flat, lacking};
+ghost use Rattle.fulatzebi.specs.Flat.{Flat, all_pages, flat, lacking, page_count};
 
 use crate::layers::bytes_at;
 use crate::lists::put_links;
@@ -89,10 +89,9 @@ fn copy_by<S: Shelf>(
 pub(crate) fn all_pages(document: &[u8], heap: Global) -> Result<Vec<SourceRecord>, AllocError>
     ensures { IfOk result (λ v. v.items ≡ all_pages document.now) }
 {
-    let pages = legal(document).map_or(0, |stated| usize::from(stated.pages));
     let mut sources = Vec::new(heap);
     // A loop, since what `map` and `collect` make of a range has no word of its own.
-    for k in 0..pages {
+    for k in 0..page_count(document) {
         sources.push(SourceRecord {
             place: 0,
             length: document.len(),
@@ -100,4 +99,14 @@ pub(crate) fn all_pages(document: &[u8], heap: Global) -> Result<Vec<SourceRecor
         })?;
     }
     Ok(sources)
+}
+
+// How many pages it has; none where it is not legal.
+fn page_count(document: &[u8]) -> usize
+    ensures { result ≡ page_count document.now }
+{
+    match legal(document) {
+        Ok(stated) => usize::from(stated.pages),
+        Err(_) => 0,
+    }
 }

@@ -1,10 +1,10 @@
 // The shelf that a bundle of fonts makes: the faces of its TFM files, and four ranks of VF files above them.
-ghost use Rattle.std.specs.Prelude.{◌≡◌, ◌≢◌, IfOk, IfErr, Ok, Err, map};
+ghost use Rattle.std.specs.Prelude.{◌≡◌, ◌⊎◌, IfOk, IfErr, Ok, Err, map};
 ghost use Rattle.std.specs.Option.{option_map, unwrap_or};
 ghost use Rattle.shelf.specs.Refusals.{returned};
 ghost use Rattle.rank.specs.Held.{files_of};
 ghost use Rattle.rank.specs.Ranks.{rank_of};
-ghost use Rattle.fulatzebi.specs.declared.stops.Why.TheVariants.{NoMemory};
+ghost use Rattle.fulatzebi.specs.Answers.{no_memory};
 ghost use Rattle.fulatzebi.specs.Layers.{Faced, bytes_in, entry_in, known, laid, of_rank, offered, shelf_of, stop_of};
 
 use crate::records::FontRecord;
@@ -29,7 +29,7 @@ pub(crate) struct Bundle<'a> {
 // No call keeps a shelf: each makes it from its bundle, and drops it.
 pub(crate) fn stack_of(bundle: Bundle<'_>, heap: Global) -> Result<Stack, Stop>
     ensures made { IfOk result (λ s. Ok (⟦<Stack as Shelf>⟧.means s) ≡ shelf_of bundle.entry.bytes.now bundle.entry.fonts.now) }
-    ensures refused { IfErr result (λ s. s.why ≢ NoMemory → Err s ≡ shelf_of bundle.entry.bytes.now bundle.entry.fonts.now) }
+    ensures refused { IfErr result (λ s. (s ≡ no_memory) ⊎ (Err s ≡ shelf_of bundle.entry.bytes.now bundle.entry.fonts.now)) }
 {
     if !are_known(bundle.fonts) {
         return Err(Stop {
@@ -93,7 +93,8 @@ fn not_made(why: NotMade) -> Stop
         NotMade::Refused(refusal) => Step::Font {
             rank: 0,
             index: entry_refused(refusal),
-        }.refused(refusal),
+        }
+        .refused(refusal),
         NotMade::NoMemory(error) => Stop::from(error),
     }
 }
@@ -113,7 +114,7 @@ fn ranked<S: Shelf + Drop>(
     heap: Global,
 ) -> Result<Rank<S>, Stop>
     ensures made { IfOk result (λ r. Ok (rank_of (S.means r.below) (files_of r)) ≡ laid bundle.entry.bytes.now bundle.entry.fonts.now rank (S.means below)) }
-    ensures refused { IfErr result (λ s. s.why ≢ NoMemory → Err s ≡ laid bundle.entry.bytes.now bundle.entry.fonts.now rank (S.means below)) }
+    ensures refused { IfErr result (λ s. (s ≡ no_memory) ⊎ (Err s ≡ laid bundle.entry.bytes.now bundle.entry.fonts.now rank (S.means below))) }
 {
     let fonts = fonts_of(bundle.fonts, rank, heap)?;
     let mut made = Rank::new(below, heap)?;

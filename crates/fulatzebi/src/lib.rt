@@ -2,6 +2,7 @@
 #![tactic(auto)]
 
 mod answering;
+mod exports;
 mod facts;
 mod flattening;
 mod layers;

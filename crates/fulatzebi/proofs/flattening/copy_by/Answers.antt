@@ -28,9 +28,9 @@ loop-index-preserved g c =
     let bs = c.in-Some.document.now in
     let out = c.loop-index.out in
     let step =
-        ap (λ r. seen (view_of g.S.Shelf.means c.copy.new.self) c.copy.new.out (said r)) (sym c.in_default-copy.is)
-        ∙ c.copy.ensures.step
-        ∙ ap (λ n. stepped v (copy (record { document = bs; page = page }) n) out) i.list in
+    ap (λ r. seen (view_of g.S.Shelf.means c.copy.new.self) c.copy.new.out (said r)) (sym c.in_default-copy.is)
+    ∙ c.copy.ensures.step
+    ∙ ap (λ n. stepped v (copy (record { document = bs; page = page }) n) out) i.list in
     record {
       copied = one_copied _ _ _ _ _ c.loop-index.index v out i.copied no_source c.loop-index-test.true bs (ap (option_map (λ s. s.now)) (sym c.in-Some.is) ∙ c.bytes_at.ensures) _ _ step;
       links = i.links;
@@ -60,15 +60,15 @@ returns-in-Err-copy g c =
     let chain = c.loop-index.chain in
     let s : Source = record { document = bs; page = (get_or c.args.order.sources.now c.loop-index.index no_source).page } in
     let step =
-        ap (λ r. seen (view_of g.S.Shelf.means c.copy.new.self) c.copy.new.out (said r)) (sym c.in-Err-copy.is)
-        ∙ c.copy.ensures.step
-        ∙ ap (λ n. stepped v (copy s n) out) i.list in
+    ap (λ r. seen (view_of g.S.Shelf.means c.copy.new.self) c.copy.new.out (said r)) (sym c.in-Err-copy.is)
+    ∙ c.copy.ensures.step
+    ∙ ap (λ n. stepped v (copy s n) out) i.list in
     let handed =
-        c.put_links.ensures
-        ∙ ap (λ ls. overlay (map link_record c.written_links.result.now) ls) i.links
-        ∙ ap (λ xs. overlay (map link_record xs) L) c.written_links.ensures
-        ∙ ap (λ ch. overlay (map link_record (take (unwrap_or (returned e).links 0) ch)) L) (c.copy.ensures.chain ∙ ap (λ n. chained (read_at v s (length out)) n chain) i.list)
-        ∙ refused_links L chain i.chain room v s out e (sym (ap (λ (x : Seen). x.answer) step)) in
+    c.put_links.ensures
+    ∙ ap (λ ls. overlay (map link_record c.written_links.result.now) ls) i.links
+    ∙ ap (λ xs. overlay (map link_record xs) L) c.written_links.ensures
+    ∙ ap (λ ch. overlay (map link_record (take (unwrap_or (returned e).links 0) ch)) L) (c.copy.ensures.chain ∙ ap (λ n. chained (read_at v s (length out)) n chain) i.list)
+    ∙ refused_links L chain i.chain room v s out e (sym (ap (λ (x : Seen). x.answer) step)) in
     ap (λ a. record { answer = a; links = c.put_links.new.to; out = c.copy.new.out }) (c.refused-in-Err-copy-2.ensures ∙ ap (λ x. refused x 0) c.refused-in-Err-copy.ensures)
     ∙ one_refused _ _ _ _ _ c.loop-index.index v out i.copied no_source c.loop-index-test.true bs (ap (option_map (λ x. x.now)) (sym c.in-Some.is) ∙ c.bytes_at.ensures) _ _ e _ step handed
 

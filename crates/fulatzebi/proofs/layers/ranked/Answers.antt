@@ -1,5 +1,5 @@
 -- A file more, a file that is refused, and all files.
-use Rattle.std.proofs.Common.{◌≡◌, [], get_or, Ok, sym, refl, ap, ◌∙◌}
+use Rattle.std.proofs.Common.{◌≡◌, [], get_or, Ok, sym, refl, ap, ◌∙◌, inr}
 use Rattle.rank.specs.Held.{files_of}
 use Rattle.rank.specs.Ranks.{rank_of}
 use Rattle.fulatzebi.specs.declared.records.FontRecord.{FontRecord}
@@ -19,24 +19,25 @@ loop-index-preserved g c =
     let i = c.loop-index.invariant in
     let fs = c.as_slice-font-items.result.now in
     let e =
-        ap (λ r. (files_of c.add.new.made, r)) (sym c.in_default.is)
-        ∙ c.add.ensures.is
-        ∙ ap (λ b. offered (g.S.Shelf.means b) (files_of c.loop-index.made) c.args.bundle.bytes.now (get_or fs c.loop-index.index no_font)) i.below in
+    ap (λ r. (files_of c.add.new.made, r)) (sym c.in_default.is)
+    ∙ c.add.ensures.is
+    ∙ ap (λ b. offered (g.S.Shelf.means b) (files_of c.loop-index.made) c.args.bundle.bytes.now (get_or fs c.loop-index.index no_font)) i.below in
     record { filled = one_more _ _ _ fs _ _ _ _ c.loop-index-test.true e i.filled; below = c.add.ensures.below ∙ i.below }
 
 pub returns-in-Err-clause-refused : goal.returns-in-Err-clause-refused
 unfolding no_font
-returns-in-Err-clause-refused g c n =
+returns-in-Err-clause-refused g c =
     let i = c.loop-index.invariant in
     let fs = c.as_slice-font-items.result.now in
     let e =
-        ap (λ r. (files_of c.add.new.made, r)) (sym c.in-Err.is)
-        ∙ c.add.ensures.is
-        ∙ ap (λ b. offered (g.S.Shelf.means b) (files_of c.loop-index.made) c.args.bundle.bytes.now (get_or fs c.loop-index.index no_font)) i.below in
+    ap (λ r. (files_of c.add.new.made, r)) (sym c.in-Err.is)
+    ∙ c.add.ensures.is
+    ∙ ap (λ b. offered (g.S.Shelf.means b) (files_of c.loop-index.made) c.args.bundle.bytes.now (get_or fs c.loop-index.index no_font)) i.below in
     let m = g.S.Shelf.means c.args.below in
-    ap (ranked_by m)
+    inr
+    (ap (ranked_by m)
     (stopped m _ _ fs _ _ _ _ _ c.loop-index-test.true e i.filled
-    ∙ ap (filled m c.args.rank c.args.bundle.bytes.now 0 []) (c.as_slice-font-items.ensures.value ∙ c.in_ok-fonts.ensures))
+    ∙ ap (filled m c.args.rank c.args.bundle.bytes.now 0 []) (c.as_slice-font-items.ensures.value ∙ c.in_ok-fonts.ensures)))
 
 pub returns-clause-made : goal.returns-clause-made
 returns-clause-made g c =

@@ -9,8 +9,7 @@ pub loop-k-preserved : goal.loop-k-preserved
 loop-k-preserved c =
     let i = c.loop-k.invariant in
     let k = c.loop-k.k in
-    let within : k < min (length c.args.from.now) (length c.args.to.now) = omega (arith, c.loop-k-test.true, c.min-k-end.ensures) in
-    (
+    let within : k < min (length c.args.from.now) (length c.args.to.now) = omega (arith, c.loop-k-test.true, c.min-k-end.ensures) in (
       put_next link_record _ _ _ k _ _ (omega (arith, within)) (omega (arith, within)) i.0 c.of.ensures,
       omega (arith, within),
       length-set c.loop-k.to k c.of.result ∙ i.2,

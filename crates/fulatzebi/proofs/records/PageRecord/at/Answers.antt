@@ -15,6 +15,6 @@ returns c =
       counted _ _ (search rules) c.count_at-7.ensures,
       counted _ _ (search rules) c.count_at-8.ensures,
       counted _ _ (search rules) c.count_at-9.ensures,
-      counted _ _ (search rules) c.count_at-10.ensures
+      counted _ _ (search rules) c.count_at-10.ensures,
     )
     refl
