@@ -1,13 +1,13 @@
 -- Pages copied one after the other by a run. Assumes nothing.
-use Rattle.std.proofs.Common.{◌≡◌, ℕ, ◌+◌, ◌<◌, ◌≤◌, Bool, true, false, cond, List, [], ◌∷◌, map, length, get_or, take, drop, Some, None, Ok, Err, Option, Result, sym, refl, ap, ◌∙◌, arith}
-use Rattle.std.specs.Prelude.{nat_le, nat_lt, ◌==◌, ◌||◌}
+use Rattle.std.proofs.Common.{◌≡◌, ℕ, ◌+◌, ◌<◌, ◌≤◌, Bool, true, false, cond, List, map, length, get_or, take, drop, Some, None, Ok, Err, Option, Result, sym, refl, ap, ◌∙◌, arith}
+use Rattle.std.specs.Prelude.{nat_lt, ◌==◌, ◌||◌}
 use Rattle.std.specs.Option.{option_or, unwrap_or}
 use Rattle.std.specs.Result.{result_err, result_ok}
 use Rattle.std.proofs.lemmas.List.{drop_more, drop_all}
 use Rattle.shelf.specs.declared.marks.Link.{Link}
 use Rattle.shelf.specs.declared.refusals.Refusal.{Refusal}
 use Rattle.shelf.specs.declared.refusals.Refusal.TheVariants.{BadOutput, OtherMag, OutputFull, PairsFull, RunClosed}
-use Rattle.shelf.specs.Answers.{answer, chain_of, linked, overlay}
+use Rattle.shelf.specs.Answers.{answer, linked, overlay}
 use Rattle.shelf.specs.Meaning.{Meaning, Facts}
 use Rattle.shelf.specs.Outcomes.{Outcome}
 use Rattle.shelf.specs.Refusals.{returned}
@@ -15,7 +15,7 @@ use Rattle.document.specs.declared.documents.Document.{Document}
 use Rattle.document.specs.Legal.{legal}
 use Rattle.reading.specs.Reading.{page_reading}
 use Rattle.copies.specs.Files.{Opening, closed_length}
-use Rattle.copies.specs.Limits.{overfull, unfit, usable}
+use Rattle.copies.specs.Limits.{overfull, usable}
 use Rattle.copies.specs.Marks.{faces_of}
 use Rattle.copies.specs.Pages.{Progress, page_bytes}
 use Rattle.copies.specs.Writing.{overwritten}

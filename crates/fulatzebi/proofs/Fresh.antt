@@ -1,25 +1,15 @@
 -- What a call leaves in fresh lists, and what of it is handed on. Assumes nothing.
-use Rattle.std.proofs.Common.{◌≡◌, ℕ, zero, suc, ◌-◌, ◌<◌, ◌≤◌, min, Bool, true, false, cond, List, [], ◌∷◌, map, length, take, replicate, Some, None, Ok, Err, Option, Result, sym, refl, ap, subst, ◌∙◌, one-add, arith}
-use Rattle.std.specs.Prelude.{nat_le, nat_lt, ◌==◌}
-use Rattle.std.specs.Option.{option_map, ok_or, unwrap_or}
-use Rattle.std.specs.Result.{result_and}
-use Rattle.std.specs.List.{AllByRecursion, position_or_len}
-use Rattle.std.proofs.lemmas.Bool.{ltb-false}
+use Rattle.std.proofs.Common.{◌≡◌, ℕ, zero, suc, false, List, [], ◌∷◌, map, length, take, replicate, refl, ap, ◌∙◌, one-add, arith}
+use Rattle.std.specs.List.{AllByRecursion}
 use Rattle.shelf.specs.declared.marks.Link.{Link}
 use Rattle.shelf.specs.declared.marks.Mark.{Mark}
 use Rattle.shelf.specs.declared.marks.Mark.TheVariants.{Glyph, Rule}
-use Rattle.shelf.specs.declared.refusals.Refusal.{Refusal}
-use Rattle.shelf.specs.declared.refusals.Refusal.TheVariants.{NoPage, MarksFull, Fault}
-use Rattle.shelf.specs.Answers.{Answered, answer, chain_of, ended, linked, overlay}
-use Rattle.shelf.specs.Laws.{GoodMark, Lawful}
-use Rattle.shelf.specs.Meaning.{Meaning, FaceMeaning}
-use Rattle.shelf.specs.Outcomes.{Outcome, Ending, well, fault}
-use Rattle.shelf.specs.Refusals.{returned}
+use Rattle.shelf.specs.Answers.{overlay}
+use Rattle.shelf.specs.Laws.{GoodMark}
+use Rattle.shelf.specs.Meaning.{FaceMeaning}
 use Rattle.fulatzebi.specs.declared.records.LinkRecord.{LinkRecord}
-use Rattle.fulatzebi.specs.declared.records.MarkRecord.{MarkRecord}
-use Rattle.fulatzebi.specs.Records.{link_record, mark_record}
-use Rattle.fulatzebi.specs.Served.{is_filler, link_filler, links_left, made, mark_filler}
-use Rattle.fulatzebi.proofs.Overlays.{put_all}
+use Rattle.fulatzebi.specs.Records.{link_record}
+use Rattle.fulatzebi.specs.Served.{is_filler, made, mark_filler}
 
 -- no shelf makes a filler
 abbrev pub Real : List Mark → Type 0

@@ -1,12 +1,11 @@
 -- A document's own refusals have no chain, and a page that is read makes good marks. Assumes nothing.
-use Rattle.std.proofs.Common.{◌≡◌, ℕ, ◌+◌, ◌-◌, ◌<◌, ◌≤◌, Bool, true, false, cond, List, length, take, Some, None, Ok, Err, Option, Result, refl, subst, arith}
-use Rattle.std.specs.Prelude.{◌==◌, slice_index, nat_le, ◌&&◌}
+use Rattle.std.proofs.Common.{◌≡◌, ℕ, ◌+◌, ◌-◌, Bool, true, false, cond, List, length, take, Some, None, Ok, Err, Option, Result, refl, subst, arith}
+use Rattle.std.specs.Prelude.{◌==◌, slice_index}
 use Rattle.std.specs.Option.{option_map, ok_or}
 use Rattle.std.specs.Result.{result_and}
 use Rattle.std.specs.List.{AllByRecursion}
-use Rattle.shelf.specs.declared.marks.Mark.{Mark}
 use Rattle.shelf.specs.declared.refusals.Refusal.{Refusal}
-use Rattle.shelf.specs.declared.refusals.Refusal.TheVariants.{NoPage, OtherMag, DocumentLength, NotDocument, WrongUnits, BrokenEnding, BrokenPages, BrokenPostamble}
+use Rattle.shelf.specs.declared.refusals.Refusal.TheVariants.{NoPage, DocumentLength, NotDocument, WrongUnits, BrokenEnding, BrokenPages, BrokenPostamble}
 use Rattle.shelf.specs.Laws.{GoodMark, Lawful}
 use Rattle.shelf.specs.Meaning.{Meaning}
 use Rattle.shelf.specs.Outcomes.{Outcome}
@@ -15,7 +14,7 @@ use Rattle.machine.proofs.Good.{good-run}
 use Rattle.document.specs.declared.documents.Document.{Document}
 use Rattle.document.specs.Bytes.{four}
 use Rattle.document.specs.Fonts.{first_unlawful}
-use Rattle.document.specs.Legal.{bare, ended, judged, judged_by, legal, placed, sized, started, stated, unit_at, units_before, units_behind}
+use Rattle.document.specs.Legal.{bare, ended, legal, placed, sized, started, stated, unit_at, units_before, units_behind}
 use Rattle.document.specs.Pages.{broken_pointer, page_place}
 use Rattle.fulatzebi.proofs.Fresh.{Real, real_marks}
 use Rattle.reading.specs.Reading.{page_outcome, page_reading, page_start, page_world, reading, reading_of}

@@ -1,13 +1,12 @@
 -- What a call that reads a page hands on from its own lists. Assumes nothing.
-use Rattle.std.proofs.Common.{◌≡◌, ℕ, ◌<◌, ◌≤◌, min, Bool, true, false, cond, List, [], ◌∷◌, map, length, take, replicate, Some, None, Ok, Err, Option, Result, sym, refl, ap, subst, ◌∙◌, arith}
+use Rattle.std.proofs.Common.{◌≡◌, ℕ, min, Bool, true, false, cond, List, [], map, length, take, replicate, Ok, Err, Result, refl, ap, subst, ◌∙◌, arith}
 use Rattle.std.proofs.lemmas.List.{length-take, length-replicate}
 use Rattle.std.specs.Prelude.{nat_le}
 use Rattle.std.specs.Option.{unwrap_or}
-use Rattle.std.specs.List.{AllByRecursion}
 use Rattle.shelf.specs.declared.marks.Link.{Link}
 use Rattle.shelf.specs.declared.marks.Mark.{Mark}
 use Rattle.shelf.specs.declared.refusals.Refusal.{Refusal}
-use Rattle.shelf.specs.declared.refusals.Refusal.TheVariants.{MarksFull, Fault}
+use Rattle.shelf.specs.declared.refusals.Refusal.TheVariants.{MarksFull}
 use Rattle.shelf.specs.Answers.{answer, chain_of, ended, linked, overlay}
 use Rattle.shelf.specs.Outcomes.{Outcome, Ending, well, fault}
 use Rattle.shelf.specs.Refusals.{returned}

@@ -11,7 +11,7 @@ use Rattle.fulatzebi.specs.declared.records.LinkRecord.{LinkRecord}
 use Rattle.fulatzebi.specs.declared.records.MarkRecord.{MarkRecord}
 use Rattle.fulatzebi.specs.declared.records.PageRecord.{PageRecord}
 use Rattle.fulatzebi.specs.declared.records.SourceRecord.{SourceRecord}
-use Rattle.fulatzebi.specs.declared.stops.Step.TheVariants.{Document as Opening, Page}
+use Rattle.fulatzebi.specs.declared.stops.Step.TheVariants.{Document as Opening}
 use Rattle.fulatzebi.specs.declared.stops.Stop.{Stop}
 use Rattle.fulatzebi.specs.Answers.{accepted, no_memory, refused}
 use Rattle.fulatzebi.specs.Flat.{Flat, flat, flat_stop, lacking, stop_at}

@@ -1,5 +1,5 @@
 -- The page of a number, as the caller is told of it.
-use Rattle.std.specs.Prelude.{ℕ, List, Ok, Err, Option, Result}
+use Rattle.std.specs.Prelude.{ℕ, List, Ok, Err, Result}
 use Rattle.std.specs.Option.{option_map, ok_or}
 use Rattle.shelf.specs.declared.refusals.Refusal.{Refusal}
 use Rattle.shelf.specs.declared.refusals.Refusal.TheVariants.{NoPage}

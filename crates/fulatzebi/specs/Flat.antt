@@ -7,8 +7,7 @@ use Rattle.shelf.specs.Outcomes.{Outcome}
 use Rattle.document.specs.declared.documents.Document.{Document}
 use Rattle.document.specs.Legal.{legal}
 use Rattle.ledgers.specs.Lists.{read_at}
-use Rattle.ledgers.specs.Sources.{Source}
-use Rattle.ledgers.specs.Steps.{Begun, Seen, Answer as Said, View, beginning, close, copy, done, long, refused as denied, stepped}
+use Rattle.ledgers.specs.Steps.{Seen, Answer as Said, View, beginning, close, copy, done, long, refused as denied, stepped}
 use Rattle.fulatzebi.specs.declared.records.Answer.{Answer}
 use Rattle.fulatzebi.specs.declared.records.LinkRecord.{LinkRecord}
 use Rattle.fulatzebi.specs.declared.records.SourceRecord.{SourceRecord}

@@ -1,5 +1,5 @@
 -- What the shelf of a bundle means, or what of the bundle is refused.
-use Rattle.std.specs.Prelude.{◌≡◌, ◌⊎◌, ℕ, ◌+◌, Bool, cond, ◌&&◌, List, [], ◌∷◌, map, length, Some, None, Ok, Err, Option, Result, nat_le, ◌==◌, vec_items}
+use Rattle.std.specs.Prelude.{◌≡◌, ◌⊎◌, ℕ, ◌+◌, Bool, cond, List, [], ◌∷◌, map, length, Some, None, Ok, Err, Option, Result, nat_le, ◌==◌, vec_items}
 use Rattle.std.specs.Option.{unwrap_or}
 use Rattle.std.specs.List.{filter, list_all}
 use Rattle.shelf.specs.declared.refusals.Refusal.{Refusal}
@@ -12,8 +12,8 @@ use Rattle.tfm.specs.declared.shelves.TfmShelf.{TfmShelf}
 use Rattle.tfm.specs.Making.{slice, entries}
 use Rattle.tfm.specs.Meaning.{tfm_meaning}
 use Rattle.tfm.specs.Outlines.{Outline, outline_of}
-use Rattle.rank.specs.Adding.{Added, Given, added}
-use Rattle.rank.specs.Entries.{Entry as File, entries_of}
+use Rattle.rank.specs.Adding.{added}
+use Rattle.rank.specs.Entries.{Entry as File}
 use Rattle.rank.specs.Ranks.{rank_of}
 use Rattle.fulatzebi.specs.declared.records.FontRecord.{FontRecord}
 use Rattle.fulatzebi.specs.declared.stops.Step.TheVariants.{Call, Font}

@@ -1,17 +1,17 @@
 -- A page more, a page that is refused, and the closing.
-use Rattle.std.proofs.Common.{◌≡◌, get_or, length, take, map, Some, None, Ok, Err, sym, refl, ap, ◌∙◌}
+use Rattle.std.proofs.Common.{get_or, length, take, map, sym, ap, ◌∙◌}
 use Rattle.std.specs.Option.{option_map, unwrap_or}
 use Rattle.shelf.specs.Answers.{overlay}
 use Rattle.shelf.specs.Refusals.{returned}
 use Rattle.ledgers.specs.Sources.{Source}
-use Rattle.ledgers.specs.Steps.{Seen, copy, close, seen, stepped}
+use Rattle.ledgers.specs.Steps.{Seen, copy, seen, stepped}
 use Rattle.ledgers.specs.Lists.{chained, read_at}
 use Rattle.runs.specs.Views.{view_of, said, lengthened}
 use Rattle.fulatzebi.specs.declared.records.SourceRecord.{SourceRecord}
 use Rattle.fulatzebi.specs.declared.stops.Step.TheVariants.{Page, Closing}
 use Rattle.fulatzebi.specs.declared.stops.Why.TheVariants.{BadRecord}
 use Rattle.fulatzebi.specs.Answers.{accepted, refused}
-use Rattle.fulatzebi.specs.Flat.{Flat, flat_stop, links_after, stop_at}
+use Rattle.fulatzebi.specs.Flat.{flat_stop, stop_at}
 use Rattle.fulatzebi.specs.Records.{link_record}
 use Rattle.fulatzebi.proofs.Copying.{lost, one_copied, one_refused, all_closed, not_closed, refused_links}
 use Rattle.fulatzebi.proofs.flattening.copy_by.Goals as goal

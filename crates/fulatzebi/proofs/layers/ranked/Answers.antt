@@ -1,10 +1,10 @@
 -- A file more, a file that is refused, and all files.
-use Rattle.std.proofs.Common.{◌≡◌, [], get_or, Ok, sym, refl, ap, ◌∙◌, inr}
+use Rattle.std.proofs.Common.{[], get_or, Ok, sym, ap, ◌∙◌, inr}
 use Rattle.rank.specs.Held.{files_of}
 use Rattle.rank.specs.Ranks.{rank_of}
 use Rattle.fulatzebi.specs.declared.records.FontRecord.{FontRecord}
-use Rattle.fulatzebi.specs.Layers.{Offered, filled, offered, ranked_by}
-use Rattle.fulatzebi.proofs.Fills.{SoFar, none_yet, one_more, stopped, all_there}
+use Rattle.fulatzebi.specs.Layers.{filled, offered, ranked_by}
+use Rattle.fulatzebi.proofs.Fills.{none_yet, one_more, stopped, all_there}
 use Rattle.fulatzebi.proofs.layers.ranked.Goals as goal
 
 no_font : FontRecord

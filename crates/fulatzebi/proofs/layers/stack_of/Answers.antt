@@ -1,5 +1,5 @@
 -- All four ranks over the faces.
-use Rattle.std.proofs.Common.{rules, sym, ◌∙◌}
+use Rattle.std.proofs.Common.{sym, ◌∙◌}
 use Rattle.fulatzebi.proofs.Stacks.{all_laid, last_refused}
 use Rattle.fulatzebi.proofs.layers.stack_of.Goals as goal
 

@@ -1,5 +1,5 @@
 -- A record more, and no room for another.
-use Rattle.std.proofs.Common.{◌≡◌, length, min, ◌<◌, ◌∙◌, arith}
+use Rattle.std.proofs.Common.{length, min, ◌<◌, ◌∙◌, arith}
 use Rattle.std.proofs.lemmas.List.{length-set}
 use Rattle.fulatzebi.specs.Records.{mark_record}
 use Rattle.fulatzebi.proofs.Overlays.{put_next, put_all}

@@ -1,5 +1,5 @@
 -- What the caller is told of a page that was read, and of one that was refused.
-use Rattle.std.proofs.Common.{◌≡◌, map, length, sym, ap, ◌∙◌}
+use Rattle.std.proofs.Common.{map, length, sym, ap, ◌∙◌}
 use Rattle.machine.specs.Views.{counted}
 use Rattle.shelf.specs.Answers.{overlay}
 use Rattle.fulatzebi.specs.Answers.{refused}
