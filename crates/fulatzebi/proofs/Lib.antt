@@ -1,8 +1,10 @@
 pub mod Copying
 pub mod Counts
+pub mod Filing
 pub mod Fills
 pub mod Fresh
 pub mod Linkless
+pub mod Nonzero
 pub mod Overlays
 pub mod Sourcing
 pub mod Stacks

@@ -1,10 +1,13 @@
 // The functions that C calls. Each is defined for every argument: nothing is required of them beyond what C owes each pointer
 // and length.
-ghost use Rattle.std.specs.Prelude.{◌≡◌};
+ghost use Rattle.std.specs.Prelude.{◌≡◌, take};
 ghost use Rattle.document.specs.Legal.{legal};
 ghost use Rattle.fulatzebi.specs.Calls.{Copied, Made, ReadOver, checked, found};
 ghost use Rattle.fulatzebi.specs.Facts.{page_facts};
+ghost use Rattle.ledgers.specs.Histories.{AreBytes};
 ghost use Rattle.fulatzebi.specs.Flat.{Flat, all_pages};
+ghost use Rattle.fulatzebi.specs.Layers.{shelf_of};
+ghost use Rattle.fulatzebi.specs.Law.{FiledBy};
 
 use crate::facts::page_of;
 use crate::flattening::{Order, all_pages, copy_over};
@@ -100,7 +103,8 @@ pub extern "C" fn fulatzebi_copy(
     answer: &mut Answer,
     heap: Global,
 )
-    ensures { Copied bytes.now fonts.now opening.now documents.now sources.now marks links.old out.old (record { answer = answer.new; links = links.new; out = out.new }) }
+    ensures step { Copied bytes.now fonts.now opening.now documents.now sources.now marks links.old out.old (record { answer = answer.new; links = links.new; out = out.new }) }
+    ensures law { answer.new.number ≡ 0 → FiledBy (shelf_of bytes.now fonts.now) opening.now documents.now sources.now (take answer.new.length out.new) }
 {
     let order = Order {
         opening,
@@ -123,7 +127,8 @@ pub extern "C" fn fulatzebi_flatten(
     answer: &mut Answer,
     heap: Global,
 )
-    ensures { Copied bytes.now fonts.now document.now document.now (all_pages document.now) marks links.old out.old (record { answer = answer.new; links = links.new; out = out.new }) }
+    ensures step { Copied bytes.now fonts.now document.now document.now (all_pages document.now) marks links.old out.old (record { answer = answer.new; links = links.new; out = out.new }) }
+    ensures law { answer.new.number ≡ 0 → FiledBy (shelf_of bytes.now fonts.now) document.now document.now (all_pages document.now) (take answer.new.length out.new) }
 {
     *answer = match all_pages(document, heap) {
         Ok(sources) => {
@@ -146,7 +151,8 @@ fn copied(
     out: &mut [u8],
     heap: Global,
 ) -> Answer
-    ensures { Copied bundle.entry.bytes.now bundle.entry.fonts.now order.entry.opening.now order.entry.documents.now order.entry.sources.now order.entry.marks links.old out.old (record { answer = result; links = links.new; out = out.new }) }
+    ensures step { Copied bundle.entry.bytes.now bundle.entry.fonts.now order.entry.opening.now order.entry.documents.now order.entry.sources.now order.entry.marks links.old out.old (record { answer = result; links = links.new; out = out.new }) }
+    ensures law { AreBytes order.entry.opening.now → result.number ≡ 0 → FiledBy (shelf_of bundle.entry.bytes.now bundle.entry.fonts.now) order.entry.opening.now order.entry.documents.now order.entry.sources.now (take result.length out.new) }
 {
     match stack_of(bundle, heap) {
         Ok(stack) => copy_over(&stack, order, links, out, heap),

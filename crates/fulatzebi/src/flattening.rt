@@ -1,5 +1,7 @@
 // Pages of documents copied into one flat file.
-ghost use Rattle.std.specs.Prelude.{◌≡◌, ◌⊎◌, IfOk, length};
+ghost use Rattle.std.specs.Prelude.{◌≡◌, ◌⊎◌, IfOk, length, take};
+ghost use Rattle.ledgers.specs.Histories.{AreBytes};
+ghost use Rattle.fulatzebi.specs.Law.{Filed};
 ghost use Rattle.fulatzebi.specs.Flat.{Flat, all_pages, flat, lacking, page_count};
 
 use crate::layers::bytes_at;
@@ -30,7 +32,8 @@ pub(crate) fn copy_over<S: Shelf>(
     out: &mut [u8],
     heap: Global,
 ) -> Answer
-    ensures { (record { answer = result; links = links.new; out = out.new } ≡ flat (S.means shelf.now) order.entry.opening.now order.entry.documents.now order.entry.sources.now order.entry.marks links.old out.old) ⊎ (record { answer = result; links = links.new; out = out.new } ≡ lacking links.old out.old) }
+    ensures step { (record { answer = result; links = links.new; out = out.new } ≡ flat (S.means shelf.now) order.entry.opening.now order.entry.documents.now order.entry.sources.now order.entry.marks links.old out.old) ⊎ (record { answer = result; links = links.new; out = out.new } ≡ lacking links.old out.old) }
+    ensures law { AreBytes order.entry.opening.now → result.number ≡ 0 → Filed (S.means shelf.now) order.entry.opening.now order.entry.documents.now order.entry.sources.now (take result.length out.new) }
 {
     match (no_links(links.len(), heap), no_marks(order.marks, heap)) {
         (Ok(mut chain), Ok(mut list)) => copy_by(
