@@ -6,6 +6,7 @@ pub mod Fresh
 pub mod Linkless
 pub mod Nonzero
 pub mod Overlays
+pub mod Refused
 pub mod Sourcing
 pub mod Stacks
 pub mod Telling

@@ -48,7 +48,7 @@ legal_linkless bs =
     let m = bare bs (length bs) in
     let q = four bs (m - 5) in
     both (sized bs) _ (either _ (Ok tt) (Err (DocumentLength (length bs))) tt refl)
-    (both (started bs) _ (either (slice_index bs 0 == 247) _ (Err (NotDocument 0)) (either (slice_index bs 1 == 2) (Ok tt) (Err (NotDocument 1)) tt refl) refl)
+    (both (started bs) _ (either (slice_index bs 0 == 247) _ (Err (NotDocument 0)) (either (slice_index bs 1 == 2) (Ok tt) _ tt refl) refl)
     (both (units_before bs) _ (both _ _ (unit_linkless bs 2 25400000) (both _ _ (unit_linkless bs 6 473628672) (either _ (Ok tt) (Err (WrongUnits 10)) tt refl)))
     (both (ended bs m q) _ (either _ (Ok tt) (Err (BrokenEnding (length bs))) tt refl)
     (both (units_behind bs q) _ (both _ _ (unit_linkless bs (q + 5) 25400000) (both _ _ (unit_linkless bs (q + 9) 473628672) (unit_linkless bs (q + 13) (four bs 10))))

@@ -13,7 +13,8 @@ use Rattle.fulatzebi.specs.declared.stops.Why.TheVariants.{BadRecord}
 use Rattle.fulatzebi.specs.Answers.{accepted, refused}
 use Rattle.fulatzebi.specs.Flat.{flat_stop, stop_at}
 use Rattle.fulatzebi.specs.Records.{link_record}
-use Rattle.fulatzebi.proofs.Copying.{lost, one_copied, one_refused, all_closed, not_closed, refused_links}
+use Rattle.fulatzebi.proofs.Copying.{lost, one_copied, one_refused, all_closed, not_closed}
+use Rattle.fulatzebi.proofs.Refused.{refused_links}
 use Rattle.fulatzebi.proofs.flattening.copy_by.Goals as goal
 
 no_source : SourceRecord
