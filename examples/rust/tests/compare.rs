@@ -455,3 +455,51 @@ fn calls_from_threads_agree() {
         .collect();
     threads.into_iter().for_each(|t| t.join().unwrap());
 }
+
+// The documents and fonts that the program is tested on, as its command lines name them.
+#[test]
+fn real_documents_agree() {
+    let folder =
+        std::path::Path::new(env!("CARGO_MANIFEST_DIR")).join("../../crates/commandlines/data");
+    let load = |name: &str| std::fs::read(folder.join(name)).unwrap();
+    let mut seen = Seen::default();
+    let mut files = 0;
+    for line in std::fs::read_to_string(folder.join("commands"))
+        .unwrap()
+        .lines()
+    {
+        let words: Vec<&str> = line.split(' ').collect();
+        if words[0] != "flatten" || !words[1].ends_with(".dvi") {
+            continue;
+        }
+        let mut pieces = Vec::new();
+        let mut rank = 0;
+        for option in words.windows(2) {
+            let of = match option[0] {
+                "--tfm" => 0,
+                "--rank" => {
+                    rank += 1;
+                    rank
+                }
+                _ => continue,
+            };
+            for font in option[1].split(',') {
+                let (name, file) = font.split_once('=').unwrap();
+                let mut bytes = load(file);
+                if of == 0 {
+                    bytes.truncate(4 * (256 * usize::from(bytes[0]) + usize::from(bytes[1])));
+                }
+                pieces.push((of, name.as_bytes().to_vec(), bytes));
+            }
+        }
+        let bundle = generate::bundle(&mut Random::new(9), &pieces);
+        let document = load(words[1]);
+        let pages = check(line, &document, &mut seen);
+        for page in 1..=pages {
+            read(line, &bundle, &document, page, 5000, 5, &mut seen);
+        }
+        let (x, _) = flatten(line, &bundle, &document, 5000, 100_000, &mut seen);
+        files += usize::from(x.number == 0);
+    }
+    assert!(files >= 5, "only {files} files were made");
+}
