@@ -1,0 +1,12 @@
+pub mod Copying
+pub mod Counts
+pub mod Filing
+pub mod Fills
+pub mod Fresh
+pub mod Linkless
+pub mod Nonzero
+pub mod Overlays
+pub mod Refused
+pub mod Sourcing
+pub mod Stacks
+pub mod Telling
