@@ -8,6 +8,7 @@ ghost use Rattle.shelf.specs.Outcomes.{ends, well};
 
 use crate::copier::Copier;
 use crate::lists::page_of;
+use crate::watching::Unwatched;
 use document::{Document, Judged, legal};
 use reading::counts_of;
 use shelf::{FacesAlone, Mark, Shelf};
@@ -170,7 +171,7 @@ fn copies_as<S: Shelf>(
         return Ok(false);
     };
     let mut again = Copier::new(heap)?;
-    let length = match again.copy_pages(shelf, &judged, 1, pages, heap)? {
+    let length = match again.copy_pages(shelf, &judged, 1, pages, &Unwatched, heap)? {
         Ok(length) => length,
         Err(_) => return Ok(false),
     };

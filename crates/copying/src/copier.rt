@@ -8,6 +8,7 @@ ghost use Rattle.runs.specs.Views.{view_of};
 ghost use Rattle.shelf.specs.Laws.{Lawful};
 ghost use Rattle.shelf.specs.Meaning.{Meaning};
 
+use crate::watching::Watch;
 use answers::Lists;
 use document::Judged;
 use runs::Run;
@@ -52,12 +53,13 @@ impl Copier {
     }
 
     // So many pages from one on. Answers the length of the closed file, or why there is none.
-    pub(crate) fn copy_pages<S: Shelf>(
+    pub(crate) fn copy_pages<S: Shelf, W: Watch>(
         &mut self,
         shelf: &S,
         document: &Judged<'_>,
         first: usize,
         count: usize,
+        watch: &W,
         heap: Global,
     ) -> Result<Result<usize, Stopped>, AllocError>
         ensures { IfOk result (λ closed. IfOk closed (λ length. Copied (S.means shelf.now) document.now.bytes.now first count (take length self.new.out.items))) }
@@ -67,6 +69,7 @@ impl Copier {
             Err(refusal) => return Ok(Err(Stopped { page: 0, refusal })),
         };
         for k in 0..count {
+            watch.page(k, count);
             let Some(page) = first.checked_add(k) else {
                 return Ok(Err(Stopped {
                     page: usize::MAX,

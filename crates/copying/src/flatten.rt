@@ -6,6 +6,7 @@ use crate::checks::check_file;
 use crate::copier::{Copier, Stopped};
 use crate::fonts::count_fonts;
 use crate::jobs::Job;
+use crate::watching::Progress;
 use answers::{meaning, refused};
 use document::{Document, Judged};
 use inspect::show_chain;
@@ -47,7 +48,10 @@ impl<'a> Task for Flattening<'a> {
         let judged = judged.with_places(places.as_mut_slice());
         let (first, count) = pages_of(options.pages, judged.stated());
         let mut copier = Copier::new(heap)?;
-        let length = match copier.copy_pages(&shelf, &judged, first, count, heap)? {
+        let progress = Progress::new(rt);
+        let copied = copier.copy_pages(&shelf, &judged, first, count, &progress, heap)?;
+        progress.clear(count);
+        let length = match copied {
             Ok(length) => length,
             Err(stopped) => return tell_stop(rt, self.file, options, stopped, &copier),
         };

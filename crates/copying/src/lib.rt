@@ -8,6 +8,7 @@ mod fonts;
 mod jobs;
 mod lists;
 mod marks;
+mod watching;
 
 pub use flatten::write_flat;
 pub use marks::show_marks;
