@@ -1,7 +1,7 @@
 -- A TFM shelf is a lawful shelf. Assumes nothing.
 use Rattle.std.specs.Prelude.{◌≡◌, ℕ, zero, suc, ◌+◌, ◌-◌, ◌*◌, ◌<◌, ◌≤◌, Bool, true, false, cond, ◌&&◌, List, [], ◌∷◌, map, length, ℤ, is_some, Some, None, Ok, Err, Option, Result, ◌==◌, nat_le, nat_lt, slice_index, slice_index_or, refl}
 use Rattle.std.proofs.Common.{sym, ap, ◌∙◌, subst, arith}
-use Rattle.std.proofs.lemmas.List.{length-map}
+use Rattle.std.proofs.lemmas.List.{length-map, length-take-le}
 use Rattle.std.proofs.lemmas.Int.{ints}
 use Rattle.std.proofs.lemmas.Bool.{ltb-true, and_parts}
 use Rattle.std.specs.List.{AllByRecursion, slice_get}
@@ -54,13 +54,13 @@ wide bytes o size code w e = by (nat_le o.first code && nat_lt code (o.first + o
     by true p q = indexed (ltb-true code (o.first + o.count) (and_parts (nat_le o.first code) (nat_lt code (o.first + o.count)) p).1) (index == 0) q
     by false p q = absent w q
 
--- a name has as many bytes as are kept
-spelled-length : (f : TfmFace) → length (spelled f.name) ≡ length f.name.bytes.items
-spelled-length f = refl
+-- a name has as many bytes as it counts
+spelled-length : (f : TfmFace) → length (spelled f.name) ≡ f.name.count
+spelled-length f = length-take-le f.name.count f.name.bytes (omega arith)
 
 good-names : (fs : List TfmFace) → AllByRecursion GoodName (face_names fs)
 good-names [] = tt
-good-names (f ∷ fs) = ((omega arith, omega arith), good-names fs)
+good-names (f ∷ fs) = let n = spelled-length f in ((omega (arith, n), omega (arith, n)), good-names fs)
 
 module _ (bytes : List ℕ) where
   -- a face of the meaning is a face of the shelf

@@ -3,7 +3,7 @@ ghost use Rattle.std.specs.Prelude.{◌+◌, ◌^◌, ◌<◌, ◌≤◌};
 
 use shelf::Name;
 
-#[derive(Drop)]
+#[derive(Clone, Copy)]
 pub struct TfmFace {
     pub name: Name,
     pub checksum: u32,
