@@ -1,5 +1,5 @@
 -- What a VF file tells: its local fonts in the order of their definitions, and a packet or none for each of 256 codes.
-use Rattle.std.specs.Prelude.{ℕ, List, [], ◌∷◌, ◌++◌, replicate, Some, None, Option, nat_eq, slice_set}
+use Rattle.std.specs.Prelude.{ℕ, List, [], ◌∷◌, ◌++◌, take, replicate, Some, None, Option, nat_eq, slice_set}
 use Rattle.std.specs.List.{slice_get}
 use Rattle.numbers.specs.Match.{first_match}
 use Rattle.vf.specs.declared.entries.Local.{Local}
@@ -12,7 +12,7 @@ pub record VfFont : Type 0 where
   pub packets : List (Option Packet)
 
 abbrev pub font_of : Vf → VfFont
-font_of f = record { locals = f.locals.items; packets = f.packets }
+font_of f = record { locals = take f.count f.locals; packets = f.packets }
 
 -- before any entry
 abbrev pub no_font : VfFont

@@ -4,8 +4,7 @@ ghost use Rattle.vf.specs.Fonts.{font_of, no_font, local_by, with_local, with_pa
 
 use crate::entries::{Local, Packet};
 use crate::packets::Coded;
-use crate::tables::Vf;
-use arrayvec::ArrayVec;
+use crate::tables::{MAX_LOCALS, Vf};
 use numbers::{Keyed, first_match};
 use std::alloc::AllocError;
 
@@ -22,15 +21,16 @@ impl Vf {
     pub fn local(&self, number: u32) -> Option<Local>
         ensures { result ≡ local_by (font_of self.now) number }
     {
-        let k = first_match(self.locals.as_slice(), number)?;
-        self.locals.get(k).copied()
+        let locals = &self.locals[..self.count];
+        let k = first_match(locals, number)?;
+        locals.get(k).copied()
     }
 
     // The local font that is defined first.
     pub fn first_local(&self) -> Option<Local>
         ensures { result ≡ slice_get (font_of self.now).locals 0 }
     {
-        self.locals.first().copied()
+        self.locals[..self.count].first().copied()
     }
 
     // The packet of a code.
@@ -45,7 +45,8 @@ impl Vf {
         ensures { font_of result ≡ no_font }
     {
         Vf {
-            locals: ArrayVec::new(),
+            count: 0,
+            locals: [Local::default(); MAX_LOCALS],
             packets: [None; 256],
         }
     }
@@ -53,14 +54,15 @@ impl Vf {
     pub(crate) fn is_full(&self) -> bool
         ensures { result ≡ nat_le 16 (length (font_of self.now).locals) }
     {
-        self.locals.is_full()
+        self.count >= MAX_LOCALS
     }
 
     pub(crate) fn add_local(&mut self, l: Local)
         requires { length (font_of self.old).locals < 16 }
         ensures { font_of self.new ≡ with_local (font_of self.old) l }
     {
-        self.locals.push(l);
+        self.locals[self.count] = l;
+        self.count += 1;
     }
 
     pub(crate) fn add_packet(&mut self, k: Coded)
@@ -70,19 +72,16 @@ impl Vf {
     }
 }
 
-// By hand, since none can be derived over ghost fields. It never fails.
+// By hand, so that what it gives stands here: the same tables again, and it never fails.
 impl Clone for Vf {
-    ghost is_clone = { λ f copy. font_of copy ≡ font_of f };
+    ghost is_clone = { λ f copy. copy ≡ f };
 
     ghost is_infallible = { λ _. ⊤ };
 
     fn clone(&self) -> Result<Vf, AllocError> {
-        let mut locals = ArrayVec::new();
-        locals
-            .try_extend_from_slice(self.locals.as_slice())
-            .map_err(|_| AllocError)?;
         Ok(Vf {
-            locals,
+            count: self.count,
+            locals: self.locals,
             packets: self.packets,
         })
     }
