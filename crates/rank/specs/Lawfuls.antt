@@ -5,7 +5,7 @@ use Rattle.std.proofs.Common.{ap, ◌∙◌, subst, length-append}
 use native.Mathlib.Omega.{arith}
 use Rattle.std.proofs.lemmas.Int.{ints}
 use Rattle.std.proofs.ByRecursion.{All-append, All-weaker}
-use Rattle.std.proofs.lemmas.List.{length-map}
+use Rattle.std.proofs.lemmas.List.{length-map, length-take-le}
 use Rattle.std.proofs.lemmas.Bool.{cond-true, lt-ltb, ltb-true}
 use Rattle.std.specs.List.{AllByRecursion, slice_get}
 use Rattle.numbers.specs.FixWords.{scaled}
@@ -37,7 +37,7 @@ use Rattle.rank.specs.Named.{found-append, joined}
 
 pub good-font-names : (fs : List Font) → AllByRecursion GoodName (map font_name fs)
 good-font-names [] = tt
-good-font-names (f ∷ fs) = ((omega arith, omega arith), good-font-names fs)
+good-font-names (f ∷ fs) = let n = length-take-le f.name.count f.name.bytes (omega arith) in ((omega (arith, n), omega (arith, n)), good-font-names fs)
 
 module _ (m : Meaning) (law : Lawful m) (fonts : ℕ) (few : length m.names ≤ fonts) (c : Asked) (own : c.font < fonts) where
   good-packet : (f : VfFont) (file : List ℕ) (p : Packet) → Good (Unit {0}) m.faces fonts (packet_run m f file c p)

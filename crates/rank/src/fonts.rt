@@ -2,7 +2,7 @@
 use shelf::Name;
 use vf::Vf;
 
-#[derive(Drop)]
+#[derive(Clone, Copy)]
 pub struct Font {
     pub name: Name,
     pub start: usize,
