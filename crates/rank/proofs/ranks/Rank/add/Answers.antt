@@ -32,11 +32,6 @@ returns-in_err-vf g c =
     let e = not-read m (vec_items r.bytes) (vec_items r.fonts) c.args.name.now c.args.file.now r.laid r.whole _ c.len.result c.len-2.result c.count.result.fonts (length c.args.file.now) (search rules) (search rules) c.count.ensures.fonts refl c.no_room.ensures.is c.if-no_room.false _ (ap (option_map spelled) (sym some) ∙ c.new_name.ensures.is) c.in_err-vf.field-0.0 c.in_err-vf.ensures in
     rw (p.1, p.2) (record { is = e; below = refl; same = refl })
 
-pub keep-requires : goal.keep-requires
-keep-requires g c =
-    let some : c.new_name.result ≡ Some c.in_ok-kept.kept = grind arith in
-    record { few = search rules; short = search rules; room = search rules; fresh = rw some at c.new_name.ensures.fresh }
-
 pub returns-clause-is : goal.returns-clause-is
 returns-clause-is g c =
     let some : c.new_name.result ≡ Some c.in_ok-kept.kept = grind arith in
