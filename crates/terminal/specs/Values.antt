@@ -11,8 +11,14 @@ abbrev pub kept_if : (ℕ → Bool) → Option ℕ → Option ℕ
 kept_if p (Some n) = cond (p n) (Some n) None
 kept_if p None = None
 
+-- what stands behind a plus sign, or the whole
+abbrev pub without_plus : List ℕ → List ℕ
+without_plus [] = []
+without_plus (byte ∷ rest) = cond (byte == 43) rest (byte ∷ rest)
+
+-- a size, with a plus sign or without
 abbrev pub size_given : List ℕ → Option ℕ
-size_given text = kept_if good_size (unsigned text)
+size_given text = kept_if good_size (unsigned (without_plus text))
 
 abbrev pub code_given : List ℕ → Option ℕ
 code_given text = kept_if (λ n. nat_lt n 256) (unsigned text)

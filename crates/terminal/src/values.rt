@@ -3,7 +3,7 @@ ghost use Rattle.std.specs.Prelude.{◌≡◌, ◌==◌, map, IfOk};
 ghost use Rattle.std.specs.List.{slice_split};
 ghost use Rattle.std.specs.Option.{option_map};
 ghost use Rattle.script.specs.Spelling.{signed, unsigned};
-ghost use Rattle.terminal.specs.Values.{size_given, code_given, point_given, range_given, font_given, font_view, fonts_given, all_fonts};
+ghost use Rattle.terminal.specs.Values.{size_given, without_plus, code_given, point_given, range_given, font_given, font_view, fonts_given, all_fonts};
 
 use script::Number;
 use std::alloc::{AllocError, Global};
@@ -15,14 +15,23 @@ pub struct Font<'a> {
     pub file: &'a str,
 }
 
-// A size that the library takes.
+// A size that the library takes. It may have a plus sign.
 pub fn size_of(value: &str) -> Option<u32>
     ensures { result ≡ size_given value.now }
 {
-    let number = usize::spelled(value.as_bytes()).ok()?;
+    let number = usize::spelled(without_plus(value.as_bytes())).ok()?;
     u32::try_from(number)
         .ok()
         .filter(|size| numbers::is_size(*size))
+}
+
+fn without_plus(text: &[u8]) -> &[u8]
+    ensures { result.now ≡ without_plus text.now }
+{
+    match text {
+        [b'+', rest @ ..] => rest,
+        _ => text,
+    }
 }
 
 pub fn code_of(value: &str) -> Option<u8>
