@@ -67,6 +67,9 @@ fn refusals_have_their_numbers(rt: HostRuntime) {
     assert_eq!(rt; Refusal::BrokenTfm { entry: 0 }.number(), 7);
     assert_eq!(rt; Refusal::ShelfFull.number(), 8);
     assert_eq!(rt; Refusal::TfmName { entry: 0 }.number(), 9);
+    assert_eq!(rt; Refusal::BrokenTfm { entry: 0 }.value(), Some(0));
+    assert_eq!(rt; Refusal::ShelfFull.value(), None);
+    assert_eq!(rt; Refusal::TfmName { entry: 1 }.value(), Some(1));
 }
 
 #[test]
