@@ -14,13 +14,13 @@ pub fn definition_at(bytes: &[u8], at: usize, width: usize) -> Option<Definition
     ensures within { IfSome result (λ d. at + width + 15 + length d.name.now ≤ length bytes.now) }
 {
     let font = unsigned_at(bytes, at.checked_add(1)?, width)?;
-    let place = at + width + 1;
-    let length = usize::from(*bytes.get(place + 12)?) + usize::from(*bytes.get(place + 13)?);
+    let rest = bytes.get(at + width + 1..)?;
+    let length = usize::from(*rest.get(12)?) + usize::from(*rest.get(13)?);
     Some(Definition {
         number: font,
-        checksum: number(bytes, place, 4),
-        size: number(bytes, place + 4, 4),
-        design: number(bytes, place + 8, 4),
-        name: bytes.get(place + 14..)?.get(..length)?,
+        checksum: number(rest, 0, 4),
+        size: number(rest, 4, 4),
+        design: number(rest, 8, 4),
+        name: rest.get(14..)?.get(..length)?,
     })
 }

@@ -1,6 +1,7 @@
 // The commands of the postamble: an iterator over them, and which of them are fair.
-ghost use Rattle.std.specs.Prelude.{◌≡◌, length, Some};
+ghost use Rattle.std.specs.Prelude.{◌≡◌, ◌+◌, ◌≤◌, length, Some, IfSome};
 ghost use Rattle.std.specs.Option.{option_map};
+ghost use Rattle.commands.specs.Definitions.{definition_at as definition_by};
 ghost use Rattle.commands.specs.Shapes.{defines};
 ghost use Rattle.shelf.specs.Names.{good_name};
 ghost use Rattle.document.specs.Fonts.{defined_at, fair, wide};
@@ -49,15 +50,28 @@ impl<'a> Iterator for Entries<'a> {
 
     ghost remaining = { λ s. at_most (s.to - s.at) };
 
+    #[inline]
     fn next(&mut self) -> Option<(usize, Option<Definition<'a>>)> {
         let at = self.at;
         if at >= self.to {
             return None;
         }
         let width = width_at(self.front, at);
-        let d = definition_at(self.front, at, width);
+        let d = definition_of(self.front, at, width);
         self.at = at + d.map_or(1, |d| width + 15 + d.name.len());
         Some((at, d))
+    }
+}
+
+// The definition at a place, where its font number would have `width` bytes. Most bytes begin none, as their width of 0
+// tells with no look at those behind.
+pub(crate) fn definition_of(front: &[u8], at: usize, width: usize) -> Option<Definition<'_>>
+    ensures is { option_map defines result ≡ definition_by front.now at width }
+    ensures within { IfSome result (λ d. at + width + 15 + length d.name.now ≤ length front.now) }
+{
+    match width {
+        0 => None,
+        _ => definition_at(front, at, width),
     }
 }
 

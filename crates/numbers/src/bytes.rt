@@ -32,8 +32,22 @@ pub fn signed_at(bytes: &[u8], place: usize, width: usize) -> Option<i32>
 }
 
 // The unsigned number in the bytes from `place` on, of which there are `width`, but no more than 4.
-// A byte past the end counts as 0, so the loop counts bytes, of which some may be in no slice that an iterator could go over.
+// A byte past the end counts as 0.
 pub fn number(bytes: &[u8], place: usize, width: usize) -> u32
+    ensures value { result ≡ number bytes.now place (min width 4) }
+    ensures bound { result < 256 ^ min width 4 }
+{
+    match unsigned_at(bytes, place, width) {
+        Some(n) => n,
+        None => padded(bytes, place, width),
+    }
+}
+
+// The same byte by byte, for any width and where bytes are missing. The loop counts bytes, of which some may be in no
+// slice that an iterator could go over. Hardly a call comes to it: it is never inlined, so that `number` stays short.
+#[cold]
+#[inline(never)]
+fn padded(bytes: &[u8], place: usize, width: usize) -> u32
     ensures value { result ≡ number bytes.now place (min width 4) }
     ensures bound { result < 256 ^ min width 4 }
 {

@@ -25,8 +25,8 @@ pub(crate) fn packet_at(file: &[u8], at: usize) -> Option<Coded>
 {
     match file.get(at..)? {
         [LONG, ..] => long_packet(file, at),
-        [n, code, _, _, _, ..] => {
-            let width = number(file, at + 2, 3);
+        [n, code, a, b, c, ..] => {
+            let width = u32::from_be_bytes([0, *a, *b, *c]);
             hold(file, *code, at + 5, usize::from(*n), width)
         }
         _ => None,

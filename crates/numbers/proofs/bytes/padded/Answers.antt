@@ -1,7 +1,7 @@
 use Rattle.std.proofs.Common.{arith, rules}
 use Rattle.std.proofs.lemmas.List.{places}
 use Rattle.numbers.proofs.Digits.{pushed, number-push}
-use Rattle.numbers.proofs.bytes.number.Goals as goal
+use Rattle.numbers.proofs.bytes.padded.Goals as goal
 
 pub overflow_mul-n : goal.overflow_mul-n
 overflow_mul-n c = omega (arith, (pushed c.loop-i.n 0 c.loop-i.i c.loop-i.invariant.bound (omega arith) (omega arith)).0)
