@@ -1,36 +1,22 @@
--- Words of digits: they are text, and `parse` reads them.
-use Rattle.std.proofs.Common.{rules, ℕ, List, ◌≡◌, ◌<◌, ◌^◌, Bool, true, false, Some, None, Ok, Err, Result, refl, length}
-use Rattle.std.specs.Char.{is_ascii_digit}
+-- Words of digits, which are read one after the other.
+use Rattle.std.proofs.Common.{arith, rules, ℕ, List, [], ◌∷◌, ◌≡◌, ◌+◌, ◌*◌, ◌-◌, ◌≤◌, ◌^◌, true, min, cond, Option, Some, None, refl}
+use Rattle.std.specs.Char.{is_ascii_digit, digit_value}
 use Rattle.std.specs.List.{list_all}
-use Rattle.std.specs.Result.{OkIff, result_unwrap_or}
-use Rattle.std.specs.Str.Parse.{digits_value, ParsesUnsigned}
-use Rattle.std.specs.Str.{IsUtf8}
-use Rattle.std.proofs.lemmas.Str.{IsUtf8-from_ascii}
-use Rattle.std.proofs.lemmas.Fmt.{IsAscii-from_digits}
-use Rattle.std.proofs.lemmas.Str.Parse.{IsNumeralModel, numerals_by_value, parse_digits}
-use Rattle.script.specs.Spelling.{spells_number, unsigned}
+use Rattle.std.specs.Str.Parse.{digits_value_after}
+use Rattle.std.proofs.lemmas.Str.{digit_value_digit}
 
-pub own : IsNumeralModel (λ ds. list_all is_ascii_digit ds ≡ true) (digits_value 10)
-own = numerals_by_value _ (search rules)
+-- the number of digits that follow those of another, or the last that there is
+abbrev pub unsigned_after : ℕ → List ℕ → Option ℕ
+unsigned_after number ds = cond (list_all is_ascii_digit ds) (Some (min (digits_value_after 10 number ds) (2 ^ 64 - 1))) None
 
-pub digits_in : (bs : List ℕ) → spells_number bs ≡ true → list_all is_ascii_digit bs ≡ true
-digits_in bs e = search rules
+-- where two numbers count as the last, so do those with more digits behind
+saturated : (most a b : ℕ) (ds : List ℕ) → min a most ≡ min b most → min (digits_value_after 10 a ds) most ≡ min (digits_value_after 10 b ds) most
+saturated most a b [] e = e
+saturated most a b (c ∷ cs) e = saturated most (a * 10 + digit_value c) (b * 10 + digit_value c) cs (omega arith)
 
-pub is_text : (bs : List ℕ) → spells_number bs ≡ true → IsUtf8 bs
-is_text bs e = IsUtf8-from_ascii bs (IsAscii-from_digits bs (own.to bs (digits_in bs e)))
-
-pub capped : {E : Type 0} (bs : List ℕ) (r : Result ℕ E) → OkIff r ((0 < length bs) × (digits_value 10 bs < 2 ^ 64)) (digits_value 10 bs) → spells_number bs ≡ true → unsigned bs ≡ Some (result_unwrap_or r 18446744073709551615)
-capped bs (Ok y) h s = search rules
-capped bs (Err e) h s = search rules
-
--- the number that was parsed, or else the last that there is
-pub unsigned_parsed : {E : Type 0} (bs t : List ℕ) (r : Result ℕ E) → t ≡ bs → ParsesUnsigned 64 10 t r → spells_number bs ≡ true → unsigned bs ≡ Some (result_unwrap_or r 18446744073709551615)
-unsigned_parsed bs t r same h s = capped bs r (parse_digits own 64 bs r (rw same at h) (digits_in bs s)) s
-
-no_number : (b : Bool) (bs : List ℕ) → spells_number bs ≡ b → (spells_number bs ≡ true → ⊥) → unsigned bs ≡ None
-no_number true bs e never = absurd (never e)
-no_number false bs e never = search rules
-
--- what is no text spells no number
-pub unsigned_none : (bs : List ℕ) → ¬ (IsUtf8 bs) → unsigned bs ≡ None
-unsigned_none bs never = no_number (spells_number bs) bs refl (λ h. never (is_text bs h))
+pub taken : (number letter : ℕ) (letters : List ℕ) → 48 ≤ letter → letter ≤ 57 → unsigned_after number (letter ∷ letters) ≡ unsigned_after (min (min (number * 10) (2 ^ 64 - 1) + (letter - 48)) (2 ^ 64 - 1)) letters
+taken number letter letters low high =
+    let worth = digit_value_digit letter (low, high) in
+    let digit : is_ascii_digit letter ≡ true = search rules in
+    let same = saturated (2 ^ 64 - 1) (number * 10 + digit_value letter) (min (min (number * 10) (2 ^ 64 - 1) + (letter - 48)) (2 ^ 64 - 1)) letters (omega (arith, worth)) in
+    rw (digit, same) refl

@@ -1,8 +1,9 @@
 -- The bytes that a store has by name, and what a line does to them.
-use Rattle.std.specs.Prelude.{ℕ, ◌≡◌, ◌⊎◌, cond, List, [], ◌∷◌, codes, nat_eq, Option, Some, Result, Ok, Err, alloc_error}
-use Rattle.std.specs.Cmp.Lexicographic.{pointwise}
-use Rattle.std.specs.HashMap.{get_by}
+use Rattle.std.specs.Prelude.{ℕ, ◌≡◌, ◌⊎◌, cond, List, [], ◌∷◌, codes, Option, Some, Result, Ok, Err, alloc_error}
+use Rattle.std.specs.BTreeMap.{get_by}
+use Rattle.std.specs.Cmp.Lexicographic.{slice_cmp}
 use Rattle.std.specs.Option.{ok_or, option_map}
+use Rattle.std.specs.Ordering.{nat_cmp}
 use Rattle.std.specs.Str.{bytes_eq, IsUtf8}
 use Rattle.std.specs.Vec.{vec_items}
 use Rattle.script.specs.Bytes.{filled_bytes, spelled_bytes}
@@ -12,7 +13,7 @@ use Rattle.script.specs.declared.store.Store.{Store}
 
 -- the bytes that were last given a name
 abbrev pub bytes_of : Store → List ℕ → Option (List ℕ)
-bytes_of store name = option_map vec_items (get_by (λ key. pointwise nat_eq name (vec_items key)) store.named)
+bytes_of store name = option_map vec_items (get_by (λ key. slice_cmp nat_cmp name (vec_items key)) store.named)
 
 -- every name has the bytes that it had
 abbrev pub Unchanged : Store → Store → Type 0

@@ -10,12 +10,12 @@ use crate::problems::Problem;
 use crate::words;
 use crate::words::Number;
 use std::alloc::Global;
-use std::collections::HashMap;
+use std::collections::BTreeMap;
 use std::fs;
 
 #[derive(Drop)]
 pub struct Store {
-    named: HashMap<Vec<u8>, Vec<u8>>,
+    named: BTreeMap<Vec<u8>, Vec<u8>>,
 }
 
 impl Store {
@@ -23,7 +23,7 @@ impl Store {
         ensures { (name : List ℕ) → bytes_of result name ≡ None }
     {
         Store {
-            named: HashMap::new(heap),
+            named: BTreeMap::new(heap),
         }
     }
 

@@ -30,18 +30,22 @@ impl Number for usize {
     ghost spelling = { unsigned };
 
     fn spelled(word: &[u8]) -> Result<usize, Problem> {
-        match std::str::from_utf8(word) {
-            Ok(digits) if is_number(word) => Ok(digits.parse().unwrap_or(usize::MAX)),
-            _ => Err(Problem::NotNumber),
+        if word.is_empty() {
+            return Err(Problem::NotNumber);
         }
+        let mut value = 0usize;
+        for letter in word {
+            match *letter {
+                digit @ b'0'..=b'9' => {
+                    value = value
+                        .saturating_mul(10)
+                        .saturating_add(usize::from(digit - b'0'))
+                }
+                _ => return Err(Problem::NotNumber),
+            }
+        }
+        Ok(value)
     }
-}
-
-// Digits alone, since `parse` takes a plus sign too.
-fn is_number(word: &[u8]) -> bool
-    ensures { result ≡ spells_number word.now }
-{
-    !word.is_empty() && word.iter().all(u8::is_ascii_digit)
 }
 
 // With a minus sign, or none.

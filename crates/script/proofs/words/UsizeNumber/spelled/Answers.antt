@@ -1,9 +1,10 @@
-use Rattle.std.proofs.Common.{rules, ◌≡◌}
-use Rattle.script.proofs.Digits.{unsigned_parsed, unsigned_none}
+use Rattle.std.proofs.Common.{arith}
+use Rattle.std.proofs.lemmas.List.{at_drop_more, at_drop_all}
+use Rattle.script.proofs.Digits.{unsigned_after, taken}
 use Rattle.script.proofs.words.UsizeNumber.spelled.Goals as goal
 
-pub returns-in-Ok : goal.returns-in-Ok
-returns-in-Ok c = let text : c.in-Ok.digits.now ≡ c.args.word.now = search rules in let e = unsigned_parsed c.args.word.now c.in-Ok.digits.now c.parse.result text c.parse.ensures.value.0 (search rules) in search (rules, e)
+pub loop-letter-preserved : goal.loop-letter-preserved
+loop-letter-preserved c = let step = taken c.loop-letter.value in grind (arith, at_drop_more (unsigned_after c.loop-letter.value), step)
 
-pub returns-in_default-2 : goal.returns-in_default-2
-returns-in_default-2 c = let e = unsigned_none c.args.word.now (search rules) in search (rules, e)
+pub returns : goal.returns
+returns c = let all = at_drop_all (unsigned_after c.loop-letter.value) in grind (arith, all)
