@@ -1,3 +1,3 @@
 mod Digits
 mod Pairs
-mod Keys
+mod Lists

@@ -1,19 +1,28 @@
 -- The bytes that a store has by name, and what a line does to them.
-use Rattle.std.specs.Prelude.{ℕ, ◌≡◌, ◌⊎◌, cond, List, [], ◌∷◌, codes, Option, Some, Result, Ok, Err, alloc_error}
-use Rattle.std.specs.BTreeMap.{get_by}
-use Rattle.std.specs.Cmp.Lexicographic.{slice_cmp}
-use Rattle.std.specs.Option.{ok_or, option_map}
-use Rattle.std.specs.Ordering.{nat_cmp}
+use Rattle.std.specs.Prelude.{ℕ, ◌≡◌, ◌⊎◌, ◌+◌, ◌-◌, ◌*◌, ◌%◌, cond, nat_lt, List, [], ◌∷◌, length, slice_index, slice_get, codes, Option, None, Some, Result, Ok, Err, alloc_error}
+use Rattle.std.specs.Option.{ok_or, option_and_then, option_or}
 use Rattle.std.specs.Str.{bytes_eq, IsUtf8}
 use Rattle.std.specs.Vec.{vec_items}
 use Rattle.script.specs.Bytes.{filled_bytes, spelled_bytes}
 use Rattle.script.specs.declared.problems.Problem.{Problem}
 use Rattle.script.specs.declared.problems.Problem.TheVariants.{NoMemory, NoSuchFile, NotBytes, NotText, WrongCount}
+use Rattle.script.specs.declared.store.Named.{Named}
 use Rattle.script.specs.declared.store.Store.{Store}
+
+-- the list that a name is in
+abbrev pub list_of : List ℕ → ℕ
+list_of name =
+    let end = length name in
+    cond (nat_lt end 3) 0 ((slice_index name (end - 3) * 100 + slice_index name (end - 2) * 10 + slice_index name (end - 1)) % 256 % 64)
+
+-- the bytes that a list last gives a name
+abbrev pub last_given : List ℕ → List Named → Option (List ℕ)
+last_given name [] = None
+last_given name (one ∷ more) = option_or (last_given name more) (cond (bytes_eq (vec_items one.name) name) (Some (vec_items one.bytes)) None)
 
 -- the bytes that were last given a name
 abbrev pub bytes_of : Store → List ℕ → Option (List ℕ)
-bytes_of store name = option_map vec_items (get_by (λ key. slice_cmp nat_cmp name (vec_items key)) store.named)
+bytes_of store name = option_and_then (λ list. last_given name (vec_items list)) (slice_get store.lists (list_of name))
 
 -- every name has the bytes that it had
 abbrev pub Unchanged : Store → Store → Type 0

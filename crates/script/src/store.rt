@@ -1,21 +1,28 @@
 // The byte strings that a script has named, and the lines that name them.
-ghost use Rattle.std.specs.Prelude.{◌≡◌, ℕ, List, map, None, Ok, IfErr};
+ghost use Rattle.std.specs.Prelude.{◌≡◌, ◌<◌, ℕ, List, map, None, Ok, IfErr};
 ghost use Rattle.std.specs.Option.{ok_or, option_copied};
 ghost use Rattle.std.specs.Result.{result_ok};
-ghost use Rattle.script.specs.Bytes.{filled_bytes, spelled_bytes};
-ghost use Rattle.script.specs.Naming.{bytes_of, Defines, Gives, Loads};
+ghost use Rattle.script.specs.Bytes.{filled_bytes, spelled_bytes, Makes};
+ghost use Rattle.script.specs.Naming.{bytes_of, list_of, Defines, Gives, Loads};
 ghost use Rattle.script.specs.declared.problems.Problem.TheVariants.{NoSuchBytes, NotBytes};
 
 use crate::problems::Problem;
 use crate::words;
 use crate::words::Number;
 use std::alloc::Global;
-use std::collections::BTreeMap;
-use std::fs;
+use std::{array, fs};
 
+// A name's last bytes choose its list, where the newest stands last. So a line that names bytes asks for no other name,
+// and no choice of names makes it long; to forget them costs what they are.
 #[derive(Drop)]
 pub struct Store {
-    named: BTreeMap<Vec<u8>, Vec<u8>>,
+    lists: [Vec<Named>; 64],
+}
+
+#[derive(Drop)]
+pub struct Named {
+    name: Vec<u8>,
+    bytes: Vec<u8>,
 }
 
 impl Store {
@@ -23,14 +30,16 @@ impl Store {
         ensures { (name : List ℕ) → bytes_of result name ≡ None }
     {
         Store {
-            named: BTreeMap::new(heap),
+            lists: array::from_fn(|_| Vec::new(heap)),
         }
     }
 
     pub fn forget(&mut self)
         ensures { (name : List ℕ) → bytes_of self.new name ≡ None }
     {
-        self.named.clear();
+        for i in 0..64 {
+            self.lists[i].clear();
+        }
     }
 
     // The bytes that were last given this name.
@@ -38,10 +47,15 @@ impl Store {
         ensures found { option_copied (result_ok result) ≡ bytes_of self.now name.now }
         ensures missing { IfErr result (λ problem. problem ≡ NoSuchBytes) }
     {
-        self.named
-            .get(name)
-            .map(|bytes| bytes.as_slice())
-            .ok_or(Problem::NoSuchBytes)
+        let list = self.lists[list_of(name)].as_slice();
+        let mut i = list.len();
+        while i > 0 {
+            i -= 1;
+            if list[i].name.as_slice() == name {
+                return Ok(list[i].bytes.as_slice());
+            }
+        }
+        Err(Problem::NoSuchBytes)
     }
 
     // A line that names bytes, by all its words.
@@ -65,8 +79,7 @@ impl Store {
     fn fill(&mut self, name: &[u8], byte: &[u8], count: &[u8], heap: Global) -> Result<(), Problem>
         ensures { Gives self.old self.new name.now (filled_bytes byte.now count.now) result }
     {
-        let byte = u8::try_from(usize::spelled(byte)?).map_err(|_| Problem::NotByte)?;
-        self.give(name, vec![in heap; byte; usize::spelled(count)?]?, heap)
+        self.give(name, filled(byte, count, heap)?, heap)
     }
 
     fn load(&mut self, name: &[u8], path: &[u8], rt: &HostRuntime) -> Result<(), Problem>
@@ -80,7 +93,33 @@ impl Store {
     fn give(&mut self, name: &[u8], bytes: Vec<u8>, heap: Global) -> Result<(), Problem>
         ensures { Gives self.old self.new name.now (Ok bytes.items) result }
     {
-        self.named.insert(Vec::from_slice(heap, name)?, bytes)?;
+        let list = list_of(name);
+        let name = Vec::from_slice(heap, name)?;
+        self.lists[list].push(Named { name, bytes })?;
         Ok(())
     }
+}
+
+// Names that end in numbers are spread over all lists.
+fn list_of(name: &[u8]) -> usize
+    ensures is { result ≡ list_of name.now }
+    ensures bound { result < 64 }
+{
+    match name {
+        [.., hundreds, tens, ones] => usize::from(
+            hundreds
+                .wrapping_mul(100)
+                .wrapping_add(tens.wrapping_mul(10))
+                .wrapping_add(*ones)
+                % 64,
+        ),
+        _ => 0,
+    }
+}
+
+fn filled(byte: &[u8], count: &[u8], heap: Global) -> Result<Vec<u8>, Problem>
+    ensures { Makes (filled_bytes byte.now count.now) result }
+{
+    let byte = u8::try_from(usize::spelled(byte)?).map_err(|_| Problem::NotByte)?;
+    Ok(vec![in heap; byte; usize::spelled(count)?]?)
 }
