@@ -53,6 +53,8 @@ fn is_positive(word: u32) -> bool
 }
 
 impl Reader {
+    // Inlined, as `items` is: else the tables, of some 8 KB, are cleared and moved once more for each.
+    #[inline(always)]
     fn new() -> Reader
         ensures { reading_of result ≡ fresh }
     {
@@ -64,6 +66,7 @@ impl Reader {
 
     // Item by item to the end of the file. Each item says where the next one begins, and changes the tables that the next is
     // read into: no iterator of the library steps so.
+    #[inline(always)]
     fn items<S: Shelf>(mut self, below: &S, file: &[u8], start: usize) -> Result<Vf, Refusal>
         requires { start ≤ length file.now }
         ensures { vf_in result ≡ walk (S.means below.now).names file.now 0 start (length file.now - start) (reading_of self) }
