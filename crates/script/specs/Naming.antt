@@ -9,11 +9,9 @@ use Rattle.script.specs.declared.problems.Problem.TheVariants.{NoMemory, NoSuchF
 use Rattle.script.specs.declared.store.Named.{Named}
 use Rattle.script.specs.declared.store.Store.{Store}
 
--- the list that a name is in
+-- which list a name is in, by its last byte
 abbrev pub list_of : List ℕ → ℕ
-list_of name =
-    let end = length name in
-    cond (nat_lt end 3) 0 ((slice_index name (end - 3) * 100 + slice_index name (end - 2) * 10 + slice_index name (end - 1)) % 256 % 64)
+list_of name = slice_index name (length name - 1) % 8
 
 -- the bytes that a list last gives a name
 abbrev pub last_given : List ℕ → List Named → Option (List ℕ)

@@ -12,11 +12,12 @@ use crate::words::Number;
 use std::alloc::Global;
 use std::{array, fs};
 
-// A name's last bytes choose its list, where the newest stands last. So a line that names bytes asks for no other name,
-// and no choice of names makes it long; to forget them costs what they are.
+// A name's last byte chooses its list, where the newest stands last. So a line that names bytes asks for no other name,
+// and no choice of names makes it long; a look-up goes through one list, and through all names at the worst. Few lists,
+// since each `case` clears them all.
 #[derive(Drop)]
 pub struct Store {
-    lists: [Vec<Named>; 64],
+    lists: [Vec<Named>; 8],
 }
 
 #[derive(Drop)]
@@ -37,7 +38,8 @@ impl Store {
     pub fn forget(&mut self)
         ensures { (name : List ℕ) → bytes_of self.new name ≡ None }
     {
-        for i in 0..64 {
+        // by place, since `iter_mut` does not say what it leaves
+        for i in 0..8 {
             self.lists[i].clear();
         }
     }
@@ -48,6 +50,7 @@ impl Store {
         ensures missing { IfErr result (λ problem. problem ≡ NoSuchBytes) }
     {
         let list = self.lists[list_of(name)].as_slice();
+        // from the end, since the newest counts
         let mut i = list.len();
         while i > 0 {
             i -= 1;
@@ -100,20 +103,14 @@ impl Store {
     }
 }
 
-// Names that end in numbers are spread over all lists.
+// Names that end in digits are spread over all lists.
 fn list_of(name: &[u8]) -> usize
     ensures is { result ≡ list_of name.now }
-    ensures bound { result < 64 }
+    ensures bound { result < 8 }
 {
     match name {
-        [.., hundreds, tens, ones] => usize::from(
-            hundreds
-                .wrapping_mul(100)
-                .wrapping_add(tens.wrapping_mul(10))
-                .wrapping_add(*ones)
-                % 64,
-        ),
-        _ => 0,
+        [.., last] => usize::from(*last % 8),
+        [] => 0,
     }
 }
 

@@ -3,4 +3,4 @@ use Rattle.std.specs.Vec.{vec_items}
 use Rattle.script.proofs.store.Store.forget.Given as goal
 
 abbrev pub invariant-loop-i : goal.invariant-loop-i
-invariant-loop-i l = record { long : length l.self.lists ≡ 64; emptied : (k : ℕ) (d : _) → k < l.i → vec_items (get_or l.self.lists k d) ≡ [] }
+invariant-loop-i l = record { long : length l.self.lists ≡ 8; emptied : (k : ℕ) (d : _) → k < l.i → vec_items (get_or l.self.lists k d) ≡ [] }
