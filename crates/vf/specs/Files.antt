@@ -117,6 +117,10 @@ unfoldable pub vf_of : List (List ℕ) → List ℕ → Result VfFont Refusal
 vf_of names s = from names s (opened s)
 
 -- what is read, as code holds it
+abbrev pub walked : Reading → Result (Unit {0}) Refusal → Result VfFont Refusal
+walked t (Ok u) = Ok t.font
+walked t (Err e) = Err e
+
 abbrev pub vf_in : Result Vf Refusal → Result VfFont Refusal
 vf_in (Ok f) = Ok (font_of f)
 vf_in (Err e) = Err e

@@ -1,6 +1,6 @@
 // A VF file read front to back over a shelf below.
 ghost use Rattle.std.specs.Prelude.{◌≡◌, ◌+◌, ◌-◌, ◌<◌, ◌≤◌, length, IfSome, IfOk};
-ghost use Rattle.vf.specs.Files.{positive, reading_of, fresh, opened, defined, packed, item, walk, vf_in, vf_of};
+ghost use Rattle.vf.specs.Files.{positive, reading_of, fresh, opened, defined, packed, item, walk, walked, vf_in, vf_of};
 
 use crate::entries::Local;
 use crate::packets::packet_at;
@@ -30,7 +30,10 @@ pub fn read_vf<S: Shelf>(below: &S, file: &[u8]) -> Result<Vf, Refusal>
     ensures { vf_in result ≡ vf_of (S.means below.now).names file.now }
 {
     let start = first_item(file).ok_or(Refusal::BrokenVf { place: 0 })?;
-    Reader::new().items(below, file, start)
+    // The reader is lent: handed over by value, its tables, of some 8 KB, are cleared and moved twice more.
+    let mut reader = Reader::new();
+    reader.items(below, file, start)?;
+    Ok(reader.vf)
 }
 
 // The place after the preamble: 247 202, a length byte, a comment as long, check sum and design size.
@@ -53,8 +56,6 @@ fn is_positive(word: u32) -> bool
 }
 
 impl Reader {
-    // Inlined, as `items` is: else the tables, of some 8 KB, are cleared and moved once more for each.
-    #[inline(always)]
     fn new() -> Reader
         ensures { reading_of result ≡ fresh }
     {
@@ -66,17 +67,16 @@ impl Reader {
 
     // Item by item to the end of the file. Each item says where the next one begins, and changes the tables that the next is
     // read into: no iterator of the library steps so.
-    #[inline(always)]
-    fn items<S: Shelf>(mut self, below: &S, file: &[u8], start: usize) -> Result<Vf, Refusal>
+    fn items<S: Shelf>(&mut self, below: &S, file: &[u8], start: usize) -> Result<(), Refusal>
         requires { start ≤ length file.now }
-        ensures { vf_in result ≡ walk (S.means below.now).names file.now 0 start (length file.now - start) (reading_of self) }
+        ensures { walked (reading_of self.new) result ≡ walk (S.means below.now).names file.now 0 start (length file.now - start) (reading_of self.old) }
     {
         let mut at = start;
         while at < file.len() {
             at = self.item(below, file, at)?;
         }
         match self.phase {
-            Phase::Ending => Ok(self.vf),
+            Phase::Ending => Ok(()),
             _ => Err(Refusal::BrokenVf { place: at }),
         }
     }
